@@ -8,6 +8,7 @@ use Rattle.std.proofs.lemmas.Bool.{cases_eq}
 use Rattle.std.proofs.lemmas.Grind.{flat_map-append}
 use Rattle.std.proofs.lemmas.List.{map-append, take_more}
 use Rattle.std.proofs.lemmas.Option.{same_Some, none-some}
+use Rattle.eco_ids.proofs.Facts.{neither}
 use Rattle.eco_ids.specs.declared.entity.Entity.{Entity}
 use Rattle.eco_ids.specs.declared.entity.TheConstants.{WITH}
 use Rattle.eco_ids.specs.declared.id.Id.{Id}
@@ -26,6 +27,8 @@ use Rattle.eco_ids.proofs.Keeps.{has_in}
 use Rattle.eco_ids.proofs.Overlaps.{entity_eq_is, entity_eq_itself}
 use Rattle.eco_systems.specs.Closing.{pattern_head, pattern_with_head}
 use Rattle.eco_systems.specs.Writes.{BringsPattern, InClosedPatterns}
+use Rattle.eco_systems.proofs.ClosedLists.{brought_head, one_brings, own_head, wild_brings}
+use Rattle.eco_systems.proofs.Lists.{some_left, some_right}
 use Rattle.eco_ids.specs.Mirrors.{is_with}
 use Rattle.eco_traits.specs.Target.{type_of_record}
 use Rattle.eco_search.specs.Search.{Appends, Covers, IsInLeast, IsLeastSet, is_among}
@@ -34,7 +37,7 @@ use Rattle.eco_batches.specs.Brought.{ids_in, pattern_key, keys_by, known_keys, 
 use Rattle.eco_batches.specs.KeyLaws.{same_keys}
 use Rattle.eco_batches.specs.declared.key.Key.{Key}
 use Rattle.eco_batches.specs.contracts.key.KeyPartialEq.TheImpl as key_eq
-use Rattle.eco_batches.proofs.Members.{Member, from_flat, from_map, in_flat, in_left, in_map, in_parts, in_right, passes, passing}
+use Rattle.eco_batches.proofs.Members.{Member, from_flat, from_map, in_flat, in_map, in_parts, passes, passing}
 use Rattle.eco_batches.proofs.Patterns.{pattern_eq-Decides}
 
 abbrev pub Brings : WorldState → Key → Key → Type 0
@@ -50,30 +53,6 @@ item_is_member ids i = (
   λ h. let one = passing (λ j. id_eq j i) ids h in subst (λ j. Member j ids) (id_eq_is one.0 i one.2) one.1,
   λ m. passes (λ j. id_eq j i) ids m (id_eq_itself i),
 )
-
-one_brings : (w : WorldState) (p : Pattern) (h x : Entity) → pattern_head p ≡ Some h → IsTrue (has w h (id.Two WITH x))
-    → BringsPattern w p (pattern_with_head p x)
-one_brings w (One c) h x at t = subst (λ e. IsTrue (has w e (id.Two WITH x))) (sym (same_Some c h at)) t
-one_brings w (Two (Is r) q) h x at t = (subst (λ e. IsTrue (has w e (id.Two WITH x))) (sym (same_Some r h at)) t, refl)
-one_brings w (Two Each q) h x at t = absurd (none-some h at)
-one_brings w (Two Any q) h x at t = absurd (none-some h at)
-
-brought_one : (w : WorldState) (p q : Pattern) (h : Entity) → pattern_head p ≡ Some h → BringsPattern w p q
-    → (x : Entity) × IsTrue (has w h (id.Two WITH x)) × (pattern_with_head p x ≡ q)
-brought_one w (One c) (One x) h at b = (x, subst (λ e. IsTrue (has w e (id.Two WITH x))) (same_Some c h at) b, refl)
-brought_one w (One c) (Two p u) h at b = absurd b
-brought_one w (Two p u) (One x) h at b = absurd (no_single p b)
-  where
-    no_single : (p : Part) → BringsPattern w (Two p u) (One x) → ⊥
-    no_single (Is r) b = b
-    no_single Each b = b
-    no_single Any b = b
-brought_one w (Two Each q) (Two p u) h at b = absurd (none-some h at)
-brought_one w (Two Any q) (Two p u) h at b = absurd (none-some h at)
-brought_one w (Two (Is r) q) (Two Each u) h at b = absurd b
-brought_one w (Two (Is r) q) (Two Any u) h at b = absurd b
-brought_one w (Two (Is r) q) (Two (Is x) u) h at b =
-    (x, subst (λ e. IsTrue (has w e (id.Two WITH x))) (same_Some r h at) b.0, ap (Two (Is x)) (sym b.1))
 
 by_with : (p : Pattern) (x : Entity) → brought_by p (id.Two WITH x) ≡ Some (pattern_with_head p x)
 by_with p x = ap (λ b. if b then Some (pattern_with_head p x) else None) (entity_eq_itself WITH)
@@ -92,14 +71,14 @@ by_id p q (id.Two r x) m = by (entity_eq r WITH) refl m
 pub brought_by_ids : (w : WorldState) (p : Pattern) (h : Entity) (ids : List Id) → pattern_head p ≡ Some h
     → ((x : Entity) → has w h (id.Two WITH x) ≡ has_item id_cmp ids (id.Two WITH x)) → (q : Pattern) → BringsPattern w p q ↔ Member q (brought p ids)
 brought_by_ids w p h ids at own q = (
-  λ b. let one = brought_one w p q h at b in
+  λ b. let one = brought_head w p h q (subst (λ r. BringsPattern w r q) (sym (own_head w p h at)) b) in
       in_flat (λ i. option_to_list (brought_by p i)) (id.Two WITH one.0) q ids ((item_is_member ids (id.Two WITH one.0)).0 (sym (own one.0) ∙ one.1))
-      (subst (λ o. Member q (option_to_list o)) (sym (by_with p one.0)) (inl one.2)),
+      (subst (λ o. Member q (option_to_list o)) (sym (by_with p one.0)) (inl (sym one.2))),
   λ m.
       let some = from_flat (λ i. option_to_list (brought_by p i)) q ids m in
       let one = by_id p q some.0 some.2 in
-      subst (BringsPattern w p) one.2 (one_brings w p h one.0 at
-      (own one.0 ∙ (item_is_member ids (id.Two WITH one.0)).1 (subst (λ i. Member i ids) one.1 some.1))),
+      subst (BringsPattern w p) one.2 (subst (λ r. BringsPattern w r (pattern_with_head p one.0)) (own_head w p h at) (one_brings w p h one.0
+      (own one.0 ∙ (item_is_member ids (id.Two WITH one.0)).1 (subst (λ i. Member i ids) one.1 some.1)))),
 )
 
 has_listed : (o : Option Record) (i : Id) (ids : List Id) → Some ids ≡ option_map type_of_record o → has_in o i ≡ has_item id_cmp ids i
@@ -114,13 +93,9 @@ has_shown w e ids shown own is x = has_listed (record_of w e) (id.Two WITH x) id
 none_brought : (p : Pattern) (ids : List Id) → list_any is_with ids ≡ false → brought p ids ≡ []
 none_brought p [] h = refl
 none_brought p (id.One e ∷ ids) h = none_brought p ids h
-none_brought p (id.Two r x ∷ ids) h = by (none_brought p ids) (entity_eq r WITH) refl
-  where
-    by : (list_any is_with ids ≡ false → brought p ids ≡ []) → (b : Bool) → entity_eq r WITH ≡ b → brought p (id.Two r x ∷ ids) ≡ []
-    by rest true e = absurd (true≢false (sym (ap (λ c. c || list_any is_with ids) e) ∙ h))
-    by rest false e =
-        ap (λ c. option_to_list (if c then Some (pattern_with_head p x) else None) ++ brought p ids) e
-        ∙ rest (sym (ap (λ c. c || list_any is_with ids) e) ∙ h)
+none_brought p (id.Two r x ∷ ids) h =
+    let parts = neither (entity_eq r WITH) (list_any is_with ids) h in
+    ap (λ c. option_to_list (if c then Some (pattern_with_head p x) else None) ++ brought p ids) parts.0 ∙ none_brought p ids parts.1
 
 pub nothing_by : (w : WorldState) (p : Pattern) (ids : List Id) → list_any is_with ids ≡ false
     → ((q : Pattern) → BringsPattern w p q ↔ Member q (brought p ids))
@@ -184,12 +159,12 @@ held_by : (states : List (IndexState Record)) (n g : ℕ) (i : Id) → IsTrue (h
 held_by [] n g i h = absurd (true≢false (sym h))
 held_by (Retired ∷ rest) zero g i h = absurd (true≢false (sym h))
 held_by (Free f ∷ rest) zero g i h = absurd (true≢false (sym h))
-held_by (Living f r ∷ rest) zero g i h = in_left i (keys r.held) (flat_map ids_in rest) (by (g == f) h)
+held_by (Living f r ∷ rest) zero g i h = some_left _ (keys r.held) (flat_map ids_in rest) (by (g == f) h)
   where
     by : (b : Bool) → IsTrue (has_in (if b then Some r else None) i) → Member i (keys r.held)
     by true k = (item_is_member (keys r.held) i).0 (sym (keys_find r.held i) ∙ k)
     by false k = absurd (true≢false (sym k))
-held_by (s ∷ rest) (suc n) g i h = in_right i (ids_in s) (flat_map ids_in rest) (held_by rest n g i h)
+held_by (s ∷ rest) (suc n) g i h = some_right _ (ids_in s) (flat_map ids_in rest) (held_by rest n g i h)
 
 module _ (w : WorldState) where
   -- what a pattern brings is known
@@ -201,17 +176,12 @@ module _ (w : WorldState) where
   known_below : (m n : ℕ) (p q : Pattern) → HasTargetBelow m n p → BringsPattern w p q
       → Member (pattern_key q) (flat_map (keys_by (targets_below m n)) (flat_map ids_in w.indices))
   known_below m n (One c) (One x) is b = known_by (targets_below m n) c x (pattern_key (One x)) b (inl refl)
-  known_below m n (One c) (Two p u) is b = absurd b
-  known_below m n (Two (Is r) t) (One x) is b = absurd b
-  known_below m n (Two Each t) (One x) is b = absurd b
-  known_below m n (Two Any t) (One x) is b = absurd b
-  known_below m n (Two Each t) (Two p u) is b = absurd b
-  known_below m n (Two Any t) (Two p u) is b = absurd b
-  known_below m n (Two (Is r) t) (Two Each u) is b = absurd b
-  known_below m n (Two (Is r) t) (Two Any u) is b = absurd b
+  known_below m n (Two Each t) q is b = absurd (wild_brings w (Two Each t) q refl b)
+  known_below m n (Two Any t) q is b = absurd (wild_brings w (Two Any t) q refl b)
   known_below m n (Two (Is r) t) (Two (Is x) u) is b =
       known_by (targets_below m n) r x (pattern_key (Two (Is x) u)) b.0
       (inr (in_map (λ q. pattern_key (Two (Is x) q)) u (targets_below m n) (target_listed m n u (subst (IsBelow m n) (sym b.1) is))))
+  known_below m n _ _ is b = absurd b
 
   among_is_member : (ks : List Key) (k : Key) → IsTrue (is_among same_key ks k) ↔ Member k ks
   among_is_member ks k = (
@@ -238,8 +208,8 @@ module _ (w : WorldState) where
           inr ((exact k.pattern).1 (subst (λ q. Member q (brought p.pattern ids)) (ap key_pattern one.2) one.1))
 
       here : IsTrue (is_among same_key old k) ⊎ Brings w p k → Member k (old ++ map pattern_key (brought p.pattern ids))
-      here (inl h) = in_left k old _ ((among_is_member old k).0 h)
-      here (inr b) = in_right k old _ (in_map pattern_key k.pattern (brought p.pattern ids) ((exact k.pattern).0 b))
+      here (inl h) = some_left _ old _ ((among_is_member old k).0 h)
+      here (inr b) = some_right _ old _ (in_map pattern_key k.pattern (brought p.pattern ids) ((exact k.pattern).0 b))
 
   -- the least set of the keys is the closure
   pub closed : (ps : List Pattern) (roots ks : List Key) → roots ≡ map pattern_key ps → IsLeastSet same_key (Brings w) roots ks

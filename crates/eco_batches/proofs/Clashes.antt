@@ -5,8 +5,7 @@ use Rattle.std.specs.List.{AllZip, list_any}
 use Rattle.std.proofs.lemmas.Bool.Decides.{Decides-or}
 use Rattle.std.proofs.lemmas.List.{map-append}
 use Rattle.std.proofs.lemmas.Option.{same_Some, none-some}
-use Rattle.eco_ids.specs.declared.pattern.Pattern.{Pattern}
-use Rattle.eco_ids.specs.Least.{root, next}
+use Rattle.eco_systems.proofs.Lists.{some_exact}
 use Rattle.eco_ids.specs.Matching.{pattern_overlaps}
 use Rattle.eco_ids.specs.World.{WorldState}
 use Rattle.eco_ids.proofs.Further.{found_at}
@@ -15,7 +14,8 @@ use Rattle.eco_systems.specs.Joining.{batched}
 use Rattle.eco_systems.specs.Laws.{JoiningMakesBatches, OrderHasSystems}
 use Rattle.eco_systems.specs.Phases.{in_order, order_of}
 use Rattle.eco_systems.specs.Systems.{SystemModel, system_reads}
-use Rattle.eco_systems.specs.Writes.{SomeOf, InClosedPatterns, IsTraitWriter, writes_trait}
+use Rattle.eco_systems.specs.Writes.{SomeOf, IsTraitWriter, writes_trait}
+use Rattle.eco_systems.proofs.ClosedLists.{nothing_closed}
 use Rattle.eco_batches.specs.OutlineModels.{OutlineModel}
 use Rattle.eco_batches.specs.Outlines.{ArePlacedBatches, IsOutline, clash_of, clash_at, closed_in, cut_of, disturbs, kills_in, kills_too, late_at}
 use Rattle.eco_batches.specs.Outlines.{no_system, reads_in, system_in, system_of, system_at, systems_of, traits_in}
@@ -32,38 +32,30 @@ module _ (w : WorldState) where
 
   outlined_at : (ds : List Declared) (os : List OutlineModel) → AllZip (IsOutline w) ds os → (k : ℕ) → Outlined (slice_get ds k) (slice_get os k)
   outlined_at [] [] h k = tt
-  outlined_at [] (o ∷ os) h k = absurd h
-  outlined_at (d ∷ ds) [] h k = absurd h
   outlined_at (d ∷ ds) (o ∷ os) h zero = h.0
   outlined_at (d ∷ ds) (o ∷ os) h (suc k) = outlined_at ds os h.1 k
-
-  nothing_closed : {p : Pattern} → InClosedPatterns w [] p → ⊥
-  nothing_closed (root h) = h
-  nothing_closed (next c b) = nothing_closed c
+  outlined_at _ _ h k = absurd h
 
   traits_exact : (d : Option Declared) (o : Option OutlineModel) → Outlined d o → IsTrue (traits_in o) ↔ IsTraitWriter w (system_in d)
-  traits_exact None None h = (λ t. absurd (true≢false (sym t)), λ x. absurd (nothing_closed (x.1).1))
-  traits_exact None (Some o) h = absurd h
-  traits_exact (Some d) None h = absurd h
+  traits_exact None None h = (λ t. absurd (true≢false (sym t)), λ x. absurd (nothing_closed w (x.1).1))
   traits_exact (Some d) (Some o) h = (
     λ t. (h.closed (writes_trait w.edition)).0 (sym h.traits ∙ t),
     λ x. h.traits ∙ (h.closed (writes_trait w.edition)).1 x,
   )
+  traits_exact _ _ h = absurd h
 
   module _ (ds : List Declared) (os : List OutlineModel) (all : AllZip (IsOutline w) ds os) where
-    some_exact : (ks : List ℕ) → IsTrue (list_any (λ k. traits_in (slice_get os k)) ks) ↔ SomeOf (IsTraitWriter w) (map (system_at ds) ks)
-    some_exact [] = (λ t. absurd (true≢false (sym t)), λ x. absurd x)
-    some_exact (k ∷ ks) = Decides-or (traits_in (slice_get os k)) (list_any (λ k. traits_in (slice_get os k)) ks)
-        (traits_exact (slice_get ds k) (slice_get os k) (outlined_at ds os all k)) (some_exact ks)
+    some_write : (ks : List ℕ) → IsTrue (list_any (λ k. traits_in (slice_get os k)) ks) ↔ SomeOf (IsTraitWriter w) (map (system_at ds) ks)
+    some_write = some_exact (λ k. traits_in (slice_get os k)) (IsTraitWriter w) (system_at ds)
+        (λ k. traits_exact (slice_get ds k) (slice_get os k) (outlined_at ds os all k))
 
   no_disturbance : (t : SystemModel) → Disturbs w no_system t → ⊥
-  no_disturbance t x = nothing_closed (x.1).1
+  no_disturbance t x = nothing_closed w (x.1).1
 
   kills_exact : (d : Option Declared) (o : Option OutlineModel) → Outlined d o → IsTrue (kills_in o) ↔ IsTrue (system_in d).kills
   kills_exact None None h = (λ k. k, λ k. k)
-  kills_exact None (Some o) h = absurd h
-  kills_exact (Some d) None h = absurd h
   kills_exact (Some d) (Some o) h = (λ k. sym h.kills ∙ k, λ k. h.kills ∙ k)
+  kills_exact _ _ h = absurd h
 
   kills_too_exact : (d : Option Declared) → IsTrue (kills_too d) ↔ IsTrue (system_in d).kills
   kills_too_exact None = (λ k. k, λ k. k)
@@ -76,9 +68,8 @@ module _ (w : WorldState) where
   disturbs_listed : (d : Option Declared) (o : Option OutlineModel) → Outlined d o → (t : SystemModel)
       → IsTrue (disturbs (closed_in o) (system_reads t)) ↔ Disturbs w (system_in d) t
   disturbs_listed None None h t = (λ k. absurd (true≢false (sym k)), λ x. absurd (no_disturbance t x))
-  disturbs_listed None (Some o) h t = absurd h
-  disturbs_listed (Some d) None h t = absurd h
   disturbs_listed (Some d) (Some o) h t = h.closed (λ p. list_any (pattern_overlaps p) (system_reads t))
+  disturbs_listed _ _ h t = absurd h
 
   disturbs_exact : (d t : Option Declared) (o : Option OutlineModel) → Outlined d o
       → IsTrue (disturbs (closed_in o) (reads_in t)) ↔ Disturbs w (system_in d) (system_in t)
@@ -92,15 +83,12 @@ module _ (w : WorldState) where
         (Decides-or (kills_too t) (late || disturbs (closed_in o) (reads_in t)) (kills_too_exact t)
         (Decides-or late (disturbs (closed_in o) (reads_in t)) is_late (disturbs_exact s t o h)))
 
-  -- the systems of positions, and one more
-  at_end : (ds : List Declared) (before : List ℕ) (t : ℕ) → map (system_at ds) (before ++ t ∷ []) ≡ map (system_at ds) before ++ system_at ds t ∷ []
-  at_end ds before t = map-append (system_at ds) before (t ∷ [])
-
   pub clash_exact : (ds : List Declared) (os : List OutlineModel) → AllZip (IsOutline w) ds os → (before : List ℕ) (s t : ℕ) →
       IsTrue (clash_at os ds before s t) ↔ Conflict w (map (system_at ds) before ++ system_at ds t ∷ []) (system_at ds s) (system_at ds t)
   clash_exact ds os all before s t =
       pair_exact (late_at os before t) (map (system_at ds) before ++ system_at ds t ∷ [])
-      (subst (λ until. IsTrue (late_at os before t) ↔ SomeOf (IsTraitWriter w) until) (at_end ds before t) (some_exact ds os all (before ++ t ∷ [])))
+      (subst (λ until. IsTrue (late_at os before t) ↔ SomeOf (IsTraitWriter w) until) (map-append (system_at ds) before (t ∷ []))
+      (some_write ds os all (before ++ t ∷ [])))
       (slice_get ds s) (slice_get ds t) (slice_get os s) (outlined_at ds os all s)
 
 -- ---- the systems in their order

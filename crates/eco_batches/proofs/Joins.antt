@@ -20,7 +20,7 @@ use Rattle.eco_batches.specs.Outlines.{IsOutline, clash_at, clash_of, closed_in,
 use Rattle.eco_batches.specs.Written.{overlaps}
 use Rattle.eco_batches.specs.declared.batch.Batch.{Batch}
 use Rattle.eco_batches.specs.declared.declaration.Declared.{Declared}
-use Rattle.eco_batches.proofs.Keyed.{or_none, or_joins}
+use Rattle.std.proofs.Math.Bool.{or-false, or_assoc}
 
 -- ---- what is asked of each system of a batch, asked of all together
 
@@ -81,12 +81,12 @@ module _ (os : List OutlineModel) where
       let K : ℕ → Bool = λ s. kills_in (slice_get os s) in
       let D : ℕ → Bool = λ s. disturbs (closed_in (slice_get os s)) (reads_in d) in
       let is : list_any D places ≡ list_any (overlaps b.written) (reads_in d) = disturbed (overlaps b.written) places h.written (reads_in d) in
-      (λ i. has_any places && (h.kills i || or_joins (kills_too d) late (sym is i) i))
+      (λ i. has_any places && (h.kills i || sym (or_assoc (kills_too d) late (sym is i)) i))
       ∙ parts (has_any places) (list_any K places) (kills_too d || late) (list_any D places) (empty_false K places) (empty_false D places)
       ∙ (λ i. list_any K places || (sym (any_always (kills_too d || late) places) i || list_any D places))
       ∙ (λ i. list_any K places || sym (any_or (λ s. kills_too d || late) D places) i)
       ∙ sym (any_or K (λ s. (kills_too d || late) || D s) places)
-      ∙ (λ i. list_any (λ s. K s || sym (or_joins (kills_too d) late (D s)) i) places)
+      ∙ (λ i. list_any (λ s. K s || or_assoc (kills_too d) late (D s) i) places)
 
   pub joins_open : (old new : Batch) (at : ℕ) (closed : List Pattern) → new.places.items ≡ old.places.items ++ at ∷ []
       → new.kills ≡ (old.kills || kills_in (slice_get os at))
@@ -95,11 +95,11 @@ module _ (os : List OutlineModel) where
   joins_open old new at closed places kills written own = record {
     places = places;
     stays = λ h. record {
-      kills = kills ∙ (λ i. h.kills i || sym (or_none (kills_in (slice_get os at))) i)
+      kills = kills ∙ (λ i. h.kills i || sym (or-false (kills_in (slice_get os at))) i)
           ∙ sym (list_any-append (λ k. kills_in (slice_get os k)) old.places.items (at ∷ []))
           ∙ sym (ap (list_any (λ k. kills_in (slice_get os k))) places);
       written = λ read. written read
-          ∙ (λ i. h.written read i || (ap (list_any (λ p. pattern_overlaps p read)) own ∙ sym (or_none (written_at read at))) i)
+          ∙ (λ i. h.written read i || (ap (list_any (λ p. pattern_overlaps p read)) own ∙ sym (or-false (written_at read at))) i)
           ∙ sym (list_any-append (written_at read) old.places.items (at ∷ []))
           ∙ sym (ap (list_any (written_at read)) places);
     };

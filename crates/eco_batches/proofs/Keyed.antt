@@ -2,8 +2,10 @@
 use Rattle.std.proofs.Common.{◌≡◌, Bool, true, false, ◌||◌, List, [], ◌∷◌, ◌++◌, refl, sym, ap, ◌∙◌, subst, IsTrue, true≢false, Ordering, if◌then◌else◌}
 use Rattle.std.specs.List.{list_any}
 use Rattle.std.specs.Ordering.{eq_by_cmp}
+use Rattle.std.proofs.Math.Bool.{or-false}
 use Rattle.std.proofs.lemmas.List.Folds.{list_any-append}
 use Rattle.indexmap.specs.IndexSet.{insert_key}
+use Rattle.eco_ids.proofs.Facts.{same_tests}
 use Rattle.eco_ids.specs.declared.entity.Entity.{Entity}
 use Rattle.eco_ids.specs.declared.id.Id.{Id}
 use Rattle.eco_ids.specs.Order.{entity_cmp, has_item, id_cmp}
@@ -15,14 +17,6 @@ use Rattle.eco_ids.proofs.Overlaps.{entity_eq_is}
 use Rattle.eco_query.specs.Queries.{has_any}
 use Rattle.eco_batches.specs.Keys.{IsNoted}
 
-pub or_none : (a : Bool) → (a || false) ≡ a
-or_none true = refl
-or_none false = refl
-
-pub or_joins : (a b c : Bool) → (a || (b || c)) ≡ ((a || b) || c)
-or_joins true b c = refl
-or_joins false b c = refl
-
 some_push : {K : Type 0} (xs : List K) (x : K) → has_any (xs ++ x ∷ []) ≡ true
 some_push [] x = refl
 some_push (y ∷ ys) x = refl
@@ -32,13 +26,11 @@ some_where test [] h = absurd (true≢false (sym h))
 some_where test (x ∷ xs) h = refl
 
 module _ {K : Type 0} (R : K → K → Ordering) (is : (a b : K) → IsTrue (eq_by_cmp R a b) → a ≡ b) where
+  back : (a b : K) → IsTrue (eq_by_cmp R a b) → IsTrue (eq_by_cmp R b a)
+  back a b h = let e = is a b h in subst (λ c. IsTrue (eq_by_cmp R b c)) (sym e) (subst (λ c. IsTrue (eq_by_cmp R c b)) e h)
+
   turned : (a b : K) → eq_by_cmp R a b ≡ eq_by_cmp R b a
-  turned a b = by (eq_by_cmp R a b) (eq_by_cmp R b a) refl refl
-    where
-      by : (x y : Bool) → eq_by_cmp R a b ≡ x → eq_by_cmp R b a ≡ y → eq_by_cmp R a b ≡ eq_by_cmp R b a
-      by true y p q = subst (λ c. eq_by_cmp R a c ≡ eq_by_cmp R c a) (is a b p) refl
-      by false true p q = sym (subst (λ c. eq_by_cmp R b c ≡ eq_by_cmp R c b) (is b a q) refl)
-      by false false p q = p ∙ sym q
+  turned a b = same_tests (eq_by_cmp R a b) (eq_by_cmp R b a) (back a b) (back b a)
 
   module _ (test : K → Bool) (x : K) (same : (y : K) → test y ≡ eq_by_cmp R x y) where
     found : (keys : List K) → list_any test keys ≡ has_item R keys x
@@ -49,7 +41,7 @@ module _ {K : Type 0} (R : K → K → Ordering) (is : (a b : K) → IsTrue (eq_
     noted old = by (list_any test old) refl
       where
         there : (y : K) → list_any test old ≡ true → (c : Bool) → eq_by_cmp R x y ≡ c → has_item R old y ≡ (has_item R old y || c)
-        there y t false e = sym (or_none (has_item R old y))
+        there y t false e = sym (or-false (has_item R old y))
         there y t true e =
             let h : has_item R old y ≡ true = ap (has_item R old) (sym (is x y e)) ∙ sym (found old) ∙ t in
             h ∙ sym (ap (λ b. b || true) h)
@@ -57,7 +49,7 @@ module _ {K : Type 0} (R : K → K → Ordering) (is : (a b : K) → IsTrue (eq_
         by : (b : Bool) → list_any test old ≡ b → IsNoted R old x (if b then old else (old ++ x ∷ []))
         by true t = record { members = λ y. there y t (eq_by_cmp R x y) refl; some = some_where test old t }
         by false t = record {
-          members = λ y. list_any-append (λ z. eq_by_cmp R z y) old (x ∷ []) ∙ ap (λ b. has_item R old y || b) (or_none (eq_by_cmp R x y));
+          members = λ y. list_any-append (λ z. eq_by_cmp R z y) old (x ∷ []) ∙ ap (λ b. has_item R old y || b) (or-false (eq_by_cmp R x y));
           some = some_push old x;
         }
 

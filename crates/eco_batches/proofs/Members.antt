@@ -1,22 +1,14 @@
 -- Members of lists.
 use Rattle.std.proofs.Common.{◌≡◌, Bool, ◌⊎◌, inl, inr, List, [], ◌∷◌, ◌++◌, map, flat_map, refl, sym, ap, subst, IsTrue, true≢false}
-use Rattle.std.specs.List.{AllByRecursion, list_any}
+use Rattle.std.specs.List.{list_any}
 use Rattle.eco_ids.proofs.Facts.{or_left, or_parts, or_right}
 use Rattle.eco_systems.specs.Writes.{SomeOf}
+use Rattle.eco_systems.proofs.Lists.{some_left, some_right}
 
 abbrev pub Member : {A : Type 0} → A → List A → Type 0
 Member x xs = SomeOf (λ y. y ≡ x) xs
 
 module _ {A : Type 0} where
-  pub in_left : (x : A) (xs ys : List A) → Member x xs → Member x (xs ++ ys)
-  in_left x [] ys h = absurd h
-  in_left x (z ∷ xs) ys (inl e) = inl e
-  in_left x (z ∷ xs) ys (inr h) = inr (in_left x xs ys h)
-
-  pub in_right : (x : A) (xs ys : List A) → Member x ys → Member x (xs ++ ys)
-  in_right x [] ys h = h
-  in_right x (z ∷ xs) ys h = inr (in_right x xs ys h)
-
   pub in_parts : (x : A) (xs ys : List A) → Member x (xs ++ ys) → Member x xs ⊎ Member x ys
   in_parts x [] ys h = inr h
   in_parts x (z ∷ xs) ys (inl e) = inl (inl e)
@@ -54,8 +46,8 @@ module _ {A B : Type 0} where
 
   pub in_flat : (f : A → List B) (x : A) (y : B) (xs : List A) → Member x xs → Member y (f x) → Member y (flat_map f xs)
   in_flat f x y [] h m = absurd h
-  in_flat f x y (z ∷ zs) (inl e) m = in_left y (f z) (flat_map f zs) (subst (λ a. Member y (f a)) (sym e) m)
-  in_flat f x y (z ∷ zs) (inr h) m = in_right y (f z) (flat_map f zs) (in_flat f x y zs h m)
+  in_flat f x y (z ∷ zs) (inl e) m = some_left _ (f z) (flat_map f zs) (subst (λ a. Member y (f a)) (sym e) m)
+  in_flat f x y (z ∷ zs) (inr h) m = some_right _ (f z) (flat_map f zs) (in_flat f x y zs h m)
 
   pub from_flat : (f : A → List B) (y : B) (xs : List A) → Member y (flat_map f xs) → (x : A) × Member x xs × Member y (f x)
   from_flat f y [] h = absurd h
@@ -65,7 +57,3 @@ module _ {A B : Type 0} where
           → (x : A) × Member x (z ∷ zs) × Member y (f x)
       by rest (inl m) = (z, inl refl, m)
       by rest (inr m) = let more = rest m in (more.0, inr more.1, more.2)
-
-pub all_push : {A : Type 0} (P : A → Type 0) (xs : List A) (x : A) → AllByRecursion P xs → P x → AllByRecursion P (xs ++ x ∷ [])
-all_push P [] x h p = (p, tt)
-all_push P (y ∷ ys) x h p = (h.0, all_push P ys x h.1 p)

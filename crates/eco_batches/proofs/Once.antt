@@ -6,15 +6,17 @@ use Rattle.std.specs.List.{AllByRecursion, IsDistinct, list_any}
 use Rattle.std.proofs.lemmas.List.Folds.{list_any-append}
 use Rattle.std.proofs.lemmas.Map.Keys.{IsDistinct-cons, IsDistinct-head, IsDistinct-tail}
 use Rattle.indexmap.specs.IndexSet.{insert_all, insert_key}
+use Rattle.eco_ids.proofs.Facts.{neither, off}
 use Rattle.eco_ids.specs.declared.pattern.Pattern.{Pattern}
 use Rattle.eco_ids.specs.World.{WorldState}
 use Rattle.eco_systems.specs.Closing.{ListsClosed}
 use Rattle.eco_systems.specs.Writes.{widened}
+use Rattle.eco_systems.proofs.Lists.{all_append}
 use Rattle.eco_batches.specs.Brought.{AreClosed, unrepeated, key_pattern, same_pattern}
 use Rattle.eco_batches.specs.declared.key.Key.{Key}
 use Rattle.eco_batches.specs.contracts.key.KeyPartialEq.TheImpl as key_eq
-use Rattle.eco_batches.proofs.Keyed.{or_joins, or_none}
-use Rattle.eco_batches.proofs.Members.{all_push, from_map, in_map, passes, passing}
+use Rattle.std.proofs.Math.Bool.{or-false, or_assoc}
+use Rattle.eco_batches.proofs.Members.{from_map, in_map, passes, passing}
 use Rattle.eco_batches.proofs.Patterns.{pattern_eq-Decides}
 
 insert_all_push : {K : Type 0} (eq : K → K → Bool) (ks xs : List K) (x : K) → insert_all eq ks (xs ++ x ∷ []) ≡ insert_key eq (insert_all eq ks xs) x
@@ -34,15 +36,15 @@ one_more test ks x = by (list_any (same_pattern x) ks) refl
       where
         there : (b : Bool) → test x ≡ b → (IsTrue (test x) → IsTrue (list_any test ks)) → list_any test ks ≡ (list_any test ks || b)
         there true e f = f e ∙ sym (ap (λ c. c || true) (f e))
-        there false e f = sym (or_none (list_any test ks))
-    by false found = list_any-append test ks (x ∷ []) ∙ ap (λ c. list_any test ks || c) (or_none (test x))
+        there false e f = sym (or-false (list_any test ks))
+    by false found = list_any-append test ks (x ∷ []) ∙ ap (λ c. list_any test ks || c) (or-false (test x))
 
 all_more : (test : Pattern → Bool) (ks xs : List Pattern) → list_any test (insert_all same_pattern ks xs) ≡ (list_any test ks || list_any test xs)
-all_more test ks [] = sym (or_none (list_any test ks))
+all_more test ks [] = sym (or-false (list_any test ks))
 all_more test ks (x ∷ xs) =
     all_more test (insert_key same_pattern ks x) xs
     ∙ ap (λ c. c || list_any test xs) (one_more test ks x)
-    ∙ sym (or_joins (list_any test ks) (test x) (list_any test xs))
+    ∙ or_assoc (list_any test ks) (test x) (list_any test xs)
 
 -- the closure, widened, lists the closed writes
 pub lists_closed : (w : WorldState) (writes members listed : List Pattern) → AreClosed w writes members → listed ≡ unrepeated (map (widened w) members)
@@ -59,26 +61,18 @@ lists_closed w writes members listed closed made test = (
 -- ---- each once
 
 turned : (p q : Pattern) → same_pattern p q ≡ false → same_pattern q p ≡ false
-turned p q h = by (same_pattern q p) refl
-  where
-    by : (b : Bool) → same_pattern q p ≡ b → same_pattern q p ≡ false
-    by true e = absurd (true≢false (sym ((pattern_eq-Decides p p).1 refl) ∙ subst (λ r. same_pattern p r ≡ false) ((pattern_eq-Decides q p).0 e) h))
-    by false e = e
+turned p q h = off (same_pattern q p) (λ e.
+    true≢false (sym ((pattern_eq-Decides p p).1 refl) ∙ subst (λ r. same_pattern p r ≡ false) ((pattern_eq-Decides q p).0 e) h))
 
 apart_from_all : (x : Pattern) (ks : List Pattern) → list_any (same_pattern x) ks ≡ false → AllByRecursion (λ y. same_pattern y x ≡ false) ks
 apart_from_all x [] h = tt
-apart_from_all x (k ∷ ks) h = by (apart_from_all x ks) (same_pattern x k) refl
-  where
-    by : (list_any (same_pattern x) ks ≡ false → AllByRecursion (λ y. same_pattern y x ≡ false) ks) → (b : Bool) → same_pattern x k ≡ b
-        → AllByRecursion (λ y. same_pattern y x ≡ false) (k ∷ ks)
-    by rest true e = absurd (true≢false (sym (ap (λ c. c || list_any (same_pattern x) ks) e) ∙ h))
-    by rest false e = (turned x k e, rest (sym (ap (λ c. c || list_any (same_pattern x) ks) e) ∙ h))
+apart_from_all x (k ∷ ks) h = let parts = neither (same_pattern x k) _ h in (turned x k parts.0, apart_from_all x ks parts.1)
 
 distinct_push : (ks : List Pattern) (x : Pattern) → IsDistinct same_pattern ks → AllByRecursion (λ y. same_pattern y x ≡ false) ks
     → IsDistinct same_pattern (ks ++ x ∷ [])
 distinct_push [] x d apart = IsDistinct-cons same_pattern x [] tt d
 distinct_push (k ∷ ks) x d apart =
-    IsDistinct-cons same_pattern k (ks ++ x ∷ []) (all_push (λ y. same_pattern k y ≡ false) ks x (IsDistinct-head same_pattern k ks d) apart.0)
+    IsDistinct-cons same_pattern k (ks ++ x ∷ []) (all_append (λ y. same_pattern k y ≡ false) ks (x ∷ []) (IsDistinct-head same_pattern k ks d) (apart.0, tt))
     (distinct_push ks x (IsDistinct-tail same_pattern k ks d) apart.1)
 
 distinct : (ks xs : List Pattern) → IsDistinct same_pattern ks → IsDistinct same_pattern (insert_all same_pattern ks xs)
@@ -98,14 +92,10 @@ inserted ks k = by (list_any ((key_eq.eq-value).it k) ks) refl
     found [] = refl
     found (j ∷ js) = ap (λ c. same_pattern k.pattern j.pattern || c) (found js)
 
-    push : (ks : List Key) → map key_pattern (ks ++ k ∷ []) ≡ map key_pattern ks ++ k.pattern ∷ []
-    push [] = refl
-    push (j ∷ js) = ap (λ l. j.pattern ∷ l) (push js)
-
     by : (b : Bool) → list_any ((key_eq.eq-value).it k) ks ≡ b
         → map key_pattern (if b then ks else ks ++ k ∷ []) ≡ insert_key same_pattern (map key_pattern ks) k.pattern
     by true e = sym (ap (λ c. if c then map key_pattern ks else map key_pattern ks ++ k.pattern ∷ []) (sym (found ks) ∙ e))
-    by false e = push ks ∙ sym (ap (λ c. if c then map key_pattern ks else map key_pattern ks ++ k.pattern ∷ []) (sym (found ks) ∙ e))
+    by false e = map_push key_pattern ks k ∙ sym (ap (λ c. if c then map key_pattern ks else map key_pattern ks ++ k.pattern ∷ []) (sym (found ks) ∙ e))
 
 -- one more is widened
 module _ (f : Pattern → Pattern) where

@@ -17,26 +17,19 @@ use Rattle.eco_query.specs.Queries.{has_any}
 use Rattle.eco_batches.specs.Keys.{part_entity}
 use Rattle.eco_batches.specs.Written.{overlaps, overlaps_pairs, HasAllPairs, HasPair, HasPairs, HasSingle, HasWild, IsNothing}
 use Rattle.eco_batches.specs.declared.written.Written.{Written}
-use Rattle.eco_batches.proofs.Keyed.{or_none, or_joins}
-
-or_true : (a : Bool) → (a || true) ≡ true
-or_true true = refl
-or_true false = refl
-
-and_true : (a : Bool) → (a && true) ≡ a
-and_true true = refl
-and_true false = refl
+use Rattle.std.proofs.Math.Bool.{and-true, or-false, or-true, or_assoc}
+use Rattle.eco_batches.specs.Keys.{IsNoted}
 
 -- what is new comes last
 last_of_two : (a e x : Bool) → ((a || e) || x) ≡ ((a || x) || e)
 last_of_two true e x = refl
-last_of_two false true x = sym (or_true x)
-last_of_two false false x = sym (or_none x)
+last_of_two false true x = sym (or-true x)
+last_of_two false false x = sym (or-false x)
 
 last_of_three : (a e w x : Bool) → (((a || e) || w) || x) ≡ (((a || w) || x) || e)
 last_of_three true e w x = refl
-last_of_three false true w x = sym (or_true (w || x))
-last_of_three false false w x = sym (or_none (w || x))
+last_of_three false true w x = sym (or-true (w || x))
+last_of_three false false w x = sym (or-false (w || x))
 
 second_last : (a w e x : Bool) → ((a || (w || e)) || x) ≡ (((a || w) || x) || e)
 second_last true w e x = refl
@@ -76,35 +69,37 @@ module _ (s s' : Written) where
   single_more e h (One f) = h.ids.members (id.One f)
   single_more e h (Two p q) =
       (λ i. same_pairs (λ r t. h.ids.members (id.Two r t)
-      ∙ or_none _) h.wide h.relationships h.targets (part_entity p) (part_entity q) i || among (h.wild i) (Two p q))
-      ∙ sym (or_none (overlaps s (Two p q)))
+      ∙ or-false _) h.wide h.relationships h.targets (part_entity p) (part_entity q) i || among (h.wild i) (Two p q))
+      ∙ sym (or-false (overlaps s (Two p q)))
 
   pub wild_more : (p q : Part) → HasWild s (Two p q) s' → (read : Pattern) → overlaps s' read ≡ (overlaps s read || pattern_overlaps (Two p q) read)
-  wild_more p q h (One f) = ap (λ k. has_item id_cmp k (id.One f)) h.ids ∙ sym (or_none (has_item id_cmp s.ids.keys (id.One f)))
+  wild_more p q h (One f) = ap (λ k. has_item id_cmp k (id.One f)) h.ids ∙ sym (or-false (has_item id_cmp s.ids.keys (id.One f)))
   wild_more p q h (Two a b) =
       (λ i. same_pairs (λ r t. ap (λ k. has_item id_cmp k (id.Two r t)) h.ids) h.wide h.relationships h.targets (part_entity a) (part_entity b) i
       || (ap (λ k. among k (Two a b)) h.wild ∙ list_any-append (λ w. pattern_overlaps w (Two a b)) s.wild.items (Two p q ∷ [])
-      ∙ ap (λ c. among s.wild.items (Two a b) || c) (or_none (pattern_overlaps (Two p q) (Two a b)))) i)
-      ∙ or_joins (overlaps_pairs s (part_entity a) (part_entity b)) (among s.wild.items (Two a b)) (pattern_overlaps (Two p q) (Two a b))
+      ∙ ap (λ c. among s.wild.items (Two a b) || c) (or-false (pattern_overlaps (Two p q) (Two a b)))) i)
+      ∙ sym (or_assoc (overlaps_pairs s (part_entity a) (part_entity b)) (among s.wild.items (Two a b)) (pattern_overlaps (Two p q) (Two a b)))
 
-  -- one pair more
-  module _ (r t : Entity) (h : HasPair s r t s') where
+  -- pairs of one relationship more
+  module _ (r : Entity) (relationships : IsNoted entity_cmp s.relationships.keys r s'.relationships.keys) (wild : s'.wild.items ≡ s.wild.items) where
     of_relationship : (u : Entity) (read : Pattern) → (has_item entity_cmp s'.relationships.keys u || among s'.wild.items read)
         ≡ ((has_item entity_cmp s.relationships.keys u || among s.wild.items read) || (entity_eq r u && true))
     of_relationship u read =
-        (λ i. h.relationships.members u i || among (h.wild i) read)
+        (λ i. relationships.members u i || among (wild i) read)
         ∙ last_of_two (has_item entity_cmp s.relationships.keys u) (entity_eq r u) (among s.wild.items read)
-        ∙ ap (λ e. (has_item entity_cmp s.relationships.keys u || among s.wild.items read) || e) (sym (and_true (entity_eq r u)))
+        ∙ ap (λ e. (has_item entity_cmp s.relationships.keys u || among s.wild.items read) || e) (sym (and-true (entity_eq r u)))
 
+    of_any : (read : Pattern) → (has_any s'.relationships.keys || among s'.wild.items read)
+        ≡ ((has_any s.relationships.keys || among s.wild.items read) || true)
+    of_any read = (λ i. relationships.some i || among s'.wild.items read) ∙ sym (or-true (has_any s.relationships.keys || among s.wild.items read))
+
+  -- one pair more
+  module _ (r t : Entity) (h : HasPair s r t s') where
     with_target : (v : Entity) (read : Pattern) → ((has_item entity_cmp s'.targets.keys v || has_any s'.wide.keys) || among s'.wild.items read)
         ≡ (((has_item entity_cmp s.targets.keys v || has_any s.wide.keys) || among s.wild.items read) || entity_eq t v)
     with_target v read =
         (λ i. (h.targets.members v i || has_any (h.wide i)) || among (h.wild i) read)
         ∙ last_of_three (has_item entity_cmp s.targets.keys v) (entity_eq t v) (has_any s.wide.keys) (among s.wild.items read)
-
-    of_any : (read : Pattern) → (has_any s'.relationships.keys || among s'.wild.items read)
-        ≡ ((has_any s.relationships.keys || among s.wild.items read) || true)
-    of_any read = (λ i. h.relationships.some i || among s'.wild.items read) ∙ sym (or_true (has_any s.relationships.keys || among s.wild.items read))
 
     pub pair_more : (read : Pattern) → overlaps s' read ≡ (overlaps s read || pattern_overlaps (Two (Is r) (Is t)) read)
     pair_more (One f) = h.ids.members (id.One f)
@@ -113,14 +108,9 @@ module _ (s s' : Written) where
         || among (h.wild i) (Two (Is u) (Is v)))
         ∙ last_of_three (has_item id_cmp s.ids.keys (id.Two u v)) (entity_eq r u && entity_eq t v) (has_item entity_cmp s.wide.keys u)
         (among s.wild.items (Two (Is u) (Is v)))
-    pair_more (Two (Is u) Each) = of_relationship u (Two (Is u) Each)
-    pair_more (Two (Is u) Any) = of_relationship u (Two (Is u) Any)
-    pair_more (Two Each (Is v)) = with_target v (Two Each (Is v))
-    pair_more (Two Any (Is v)) = with_target v (Two Any (Is v))
-    pair_more (Two Each Each) = of_any (Two Each Each)
-    pair_more (Two Each Any) = of_any (Two Each Any)
-    pair_more (Two Any Each) = of_any (Two Any Each)
-    pair_more (Two Any Any) = of_any (Two Any Any)
+    pair_more (Two (Is u) q) = of_relationship r h.relationships h.wild u (Two (Is u) q)
+    pair_more (Two p (Is v)) = with_target v (Two p (Is v))
+    pair_more (Two p q) = of_any r h.relationships h.wild (Two p q)
 
   -- all pairs of a relationship
   module _ (r : Entity) (h : HasAllPairs s r s') where
@@ -131,37 +121,21 @@ module _ (s s' : Written) where
         (λ i. (has_item id_cmp (h.ids i) (id.Two u v) || h.wide.members u i) || among (h.wild i) read)
         ∙ second_last (has_item id_cmp s.ids.keys (id.Two u v)) (has_item entity_cmp s.wide.keys u) (entity_eq r u) (among s.wild.items read)
         ∙ ap (λ e. ((has_item id_cmp s.ids.keys (id.Two u v) || has_item entity_cmp s.wide.keys u) || among s.wild.items read) || e)
-        (sym (and_true (entity_eq r u)))
-
-    all_of_relationship : (u : Entity) (read : Pattern) → (has_item entity_cmp s'.relationships.keys u || among s'.wild.items read)
-        ≡ ((has_item entity_cmp s.relationships.keys u || among s.wild.items read) || (entity_eq r u && true))
-    all_of_relationship u read =
-        (λ i. h.relationships.members u i || among (h.wild i) read)
-        ∙ last_of_two (has_item entity_cmp s.relationships.keys u) (entity_eq r u) (among s.wild.items read)
-        ∙ ap (λ e. (has_item entity_cmp s.relationships.keys u || among s.wild.items read) || e) (sym (and_true (entity_eq r u)))
+        (sym (and-true (entity_eq r u)))
 
     any_target : (v : Entity) (read : Pattern) → ((has_item entity_cmp s'.targets.keys v || has_any s'.wide.keys) || among s'.wild.items read)
         ≡ (((has_item entity_cmp s.targets.keys v || has_any s.wide.keys) || among s.wild.items read) || true)
     any_target v read =
         (λ i. (has_item entity_cmp s'.targets.keys v || h.wide.some i) || among s'.wild.items read)
-        ∙ ap (λ b. b || among s'.wild.items read) (or_true (has_item entity_cmp s'.targets.keys v))
-        ∙ sym (or_true ((has_item entity_cmp s.targets.keys v || has_any s.wide.keys) || among s.wild.items read))
-
-    all_of_any : (read : Pattern) → (has_any s'.relationships.keys || among s'.wild.items read)
-        ≡ ((has_any s.relationships.keys || among s.wild.items read) || true)
-    all_of_any read = (λ i. h.relationships.some i || among s'.wild.items read) ∙ sym (or_true (has_any s.relationships.keys || among s.wild.items read))
+        ∙ ap (λ b. b || among s'.wild.items read) (or-true (has_item entity_cmp s'.targets.keys v))
+        ∙ sym (or-true ((has_item entity_cmp s.targets.keys v || has_any s.wide.keys) || among s.wild.items read))
 
     all_more : (read : Pattern) → overlaps s' read ≡ (overlaps s read || pattern_overlaps (Two (Is r) Each) read)
-    all_more (One f) = ap (λ k. has_item id_cmp k (id.One f)) h.ids ∙ sym (or_none (has_item id_cmp s.ids.keys (id.One f)))
+    all_more (One f) = ap (λ k. has_item id_cmp k (id.One f)) h.ids ∙ sym (or-false (has_item id_cmp s.ids.keys (id.One f)))
     all_more (Two (Is u) (Is v)) = of_wide u v (Two (Is u) (Is v))
-    all_more (Two (Is u) Each) = all_of_relationship u (Two (Is u) Each)
-    all_more (Two (Is u) Any) = all_of_relationship u (Two (Is u) Any)
-    all_more (Two Each (Is v)) = any_target v (Two Each (Is v))
-    all_more (Two Any (Is v)) = any_target v (Two Any (Is v))
-    all_more (Two Each Each) = all_of_any (Two Each Each)
-    all_more (Two Each Any) = all_of_any (Two Each Any)
-    all_more (Two Any Each) = all_of_any (Two Any Each)
-    all_more (Two Any Any) = all_of_any (Two Any Any)
+    all_more (Two (Is u) q) = of_relationship r h.relationships h.wild u (Two (Is u) q)
+    all_more (Two p (Is v)) = any_target v (Two p (Is v))
+    all_more (Two p q) = of_any r h.relationships h.wild (Two p q)
 
   -- pairs of one relationship, by the entities that the pattern names
   pub pairs_more : (p q : Part) (r : Entity) (o : Option Entity) → Some r ≡ part_entity p → o ≡ part_entity q → HasPairs s r o s'

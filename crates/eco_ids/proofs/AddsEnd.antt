@@ -1,11 +1,12 @@
 -- An add has an end: the closure can be listed, and what stands against it can be found.
-use Rattle.eco_ids.proofs.Common.{◌≡◌, Bool, true, false, List, [], ◌∷◌, ◌++◌, map, IsTrue, Some, None, MatchBool, Option, option_map, sym, refl, subst, inl}
-use Rattle.eco_ids.proofs.Common.{inr, ⊎_elim, arith, list_any, common_steps, Entity, ACYCLIC, WITH, Id, Two, One, Refusal, Cycle, InUse, NotAPolicy}
+use Rattle.eco_ids.proofs.Adds.{closure_lives, verdict_of}
+use Rattle.eco_ids.proofs.Common.{◌≡◌, Bool, true, false, List, [], ◌∷◌, ◌++◌, map, IsTrue, Some, None, MatchBool, Option, sym, refl, subst, inl}
+use Rattle.eco_ids.proofs.Common.{inr, ⊎_elim, arith, list_any, common_steps, Entity, ACYCLIC, WITH, Id, Two, One, Refusal, InUse, NotAPolicy}
 use Rattle.eco_ids.proofs.Common.{late_traits, IsLawful, root, next, id_cmp, has_item, id_eq, Answers, changed, IsClosure, Judges, grown, Extends, ClosesCycle}
-use Rattle.eco_ids.proofs.Common.{cond, option_or, has_clash, TraitClash, IsFirstCycle, is_late, is_wrong_policy, InClosure, Reaches, Brings, WorldState}
+use Rattle.eco_ids.proofs.Common.{has_clash, IsFirstCycle, is_late, is_wrong_policy, Reaches, Brings, WorldState}
 use Rattle.eco_ids.proofs.Common.{Record, has, is_alive, names_living}
 use Rattle.eco_ids.proofs.Common.{is_acyclic}
-use Rattle.eco_ids.proofs.Ascending.{both, first, second}
+use Rattle.eco_ids.proofs.Ascending.{first, second}
 use Rattle.eco_ids.proofs.Endings.{End, done, unless}
 use Rattle.eco_ids.proofs.Facts.{id_eq_is, id_eq_itself, same_or_apart}
 use Rattle.eco_ids.proofs.IdOrder.{entity_cmp_total, id_cmp_total, same_id}
@@ -56,19 +57,9 @@ module _ (w : WorldState) (l : IsLawful w) where
   target_lives : (e r t : Entity) → IsTrue (has w e (Two r t)) → IsTrue (is_alive w t)
   target_lives e r t h = second (is_alive w r) _ (l.orderly.living e (Two r t) h)
 
-  brought_lives : (j k : Id) → IsTrue (names_living w j) → Brings w j k → IsTrue (names_living w k)
-  brought_lives (One c) (One x) h b = target_lives c WITH x b
-  brought_lives (One c) (Two x t) h b = absurd b
-  brought_lives (Two r t) (One x) h b = absurd b
-  brought_lives (Two r t) (Two x u) h b = both _ _ (target_lives r WITH x b.0) (subst (λ y. IsTrue (is_alive w y)) (sym b.1) (second (is_alive w r) _ h))
-
-  member_lives : (i : Id) → IsTrue (names_living w i) → {j : Id} → InClosure w i j → IsTrue (names_living w j)
-  member_lives i h (root e) = subst (λ k. IsTrue (names_living w k)) (sym e) h
-  member_lives i h (next {a = a} {b = b} member brings) = brought_lives a b (member_lives i h member) brings
-
   closure_listed : (i : Id) → IsTrue (names_living w i) → (s : List Id) × IsClosure w i s
   closure_listed i h =
-      let all = listed (λ j. j ≡ i) (Brings w) (λ j. decide_id j i) (decide_brings w) (the_ids w) (λ j m. id_in w j (member_lives i h m)) in
+      let all = listed (λ j. j ≡ i) (Brings w) (λ j. decide_id j i) (decide_brings w) (the_ids w) (λ j m. id_in w j (closure_lives w i l.orderly h m)) in
       let up = sorted id_cmp_total same_id all.0 in
       (up.0, record { ascending = up.1; exact = λ j. (λ m. (all.1 j).0 ((up.2 j).0 m), λ m. (up.2 j).1 ((all.1 j).1 m)) })
 
@@ -98,11 +89,8 @@ module _ (w : WorldState) (l : IsLawful w) where
         ⊎_elim (λ r. (Some r.0, (r.1.passes, r.1.least))) (λ none. (None, none))
         (least_of entity_cmp_total (ClosesCycle w e s) decide_cycle (the_living w) (λ r c. living_in w r (has_alive w r (One ACYCLIC) c.0)))
 
-    abbrev verdict_of : WorldState → Option Entity → Option Refusal
-    verdict_of after cycle = cond (has_clash after) (option_or (option_map Cycle cycle) (Some TraitClash)) (option_map Cycle cycle)
-
     abbrev HasCycle : WorldState → Option Refusal → Type 0
-    HasCycle after v = (cycle : Option Entity) × IsFirstCycle w e s cycle × (v ≡ verdict_of after cycle)
+    HasCycle after v = (cycle : Option Entity) × IsFirstCycle w e s cycle × (v ≡ verdict_of (has_clash after) cycle)
 
     judged : (after : WorldState) → (verdict : Option Refusal) × Judges w e s after verdict
     judged after = by (list_any is_wrong_policy s) (list_any (is_late w e s) (late_traits w.edition))
@@ -110,11 +98,11 @@ module _ (w : WorldState) (l : IsLawful w) where
         by : (b c : Bool) → (v : Option Refusal) × MatchBool b (v ≡ Some NotAPolicy) (MatchBool c (v ≡ Some InUse) (HasCycle after v))
         by true c = (Some NotAPolicy, refl)
         by false true = (Some InUse, refl)
-        by false false = (verdict_of after first_cycle.0, (first_cycle.0, first_cycle.1, refl))
+        by false false = (verdict_of (has_clash after) first_cycle.0, (first_cycle.0, first_cycle.1, refl))
 
   pub extends_end : (e : Entity) (i : Id) (besides : Record → Record) → IsTrue (names_living w i) → End (Extends w e i besides)
   extends_end e i besides h =
       let s = closure_listed i h in
-      let v = judged e s.0 (λ j m. member_lives i h ((s.1.exact j).0 m)) (grown w e i s.0) in
+      let v = judged e s.0 (λ j m. closure_lives w i l.orderly h ((s.1.exact j).0 m)) (grown w e i s.0) in
       let end = unless w v.0 (Answers {A = Unit {0}} tt (changed (grown w e i s.0) e besides)) (λ _. done tt (changed (grown w e i s.0) e besides)) in
       (end.0, end.1, (s.0, s.1, v.0, v.1, end.2))

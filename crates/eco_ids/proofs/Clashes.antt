@@ -1,6 +1,10 @@
 -- What an add makes clash is seen at a look: at its entity, and at the targets of the pairs of With that come.
-use Rattle.eco_ids.proofs.Common.{◌≡◌, Bool, true, false, not, ◌&&◌, ◌||◌, ◌⊎◌, List, [], IsTrue, IsFalse, Some, None, Option, option_map}
-use Rattle.eco_ids.proofs.Common.{unwrap_or, sym, refl, ap, ◌∙◌, subst, inl, inr, true≢false, find, where_key, list_any, Edition, First, Second, Entity}
+use Rattle.eco_ids.proofs.Adds.{closure_came}
+use Rattle.eco_ids.proofs.Common.{ℕ}
+use Rattle.eco_ids.proofs.Facts.{off}
+use Rattle.eco_ids.proofs.Mirrors.{held_with, living_with}
+use Rattle.eco_ids.proofs.Common.{◌≡◌, Bool, true, false, not, ◌&&◌, ◌||◌, ◌⊎◌, List, IsTrue, IsFalse, Some, None, Option}
+use Rattle.eco_ids.proofs.Common.{sym, refl, ap, ◌∙◌, subst, inl, inr, true≢false, list_any, Edition, First, Second, Entity}
 use Rattle.eco_ids.proofs.Common.{ACYCLIC, EXCLUSIVE, SYMMETRIC, WITH, Id, Two, One, IsLawful, id_cmp, has_item, id_eq, entity_eq, IsClosure}
 use Rattle.eco_ids.proofs.Common.{with_closure, with_mirror, grown, is_replaced, WorldState, Record, has, record_of, is_alive, names_living, living, held_by}
 use Rattle.eco_ids.proofs.Common.{is_exclusive, is_acyclic, is_symmetric, has_symmetric, is_pair_of, is_with, is_clashing, mirror_of, has_clash}
@@ -8,27 +12,22 @@ use Rattle.eco_ids.proofs.Common.{world_of_edition, is_builtin}
 use Rattle.eco_ids.specs.Mirrors.{ties_symmetric, would_be_barred, would_clash}
 use Rattle.eco_ids.proofs.Adds.{half, closure_present, closure_write}
 use Rattle.eco_ids.proofs.Ascending.{both, first, second}
-use Rattle.eco_ids.proofs.Closures.{kept_entry, zeros_entry}
 use Rattle.eco_ids.proofs.First.{builtin_plain}
-use Rattle.eco_ids.proofs.Facts.{any_is, id_eq_is, id_eq_itself, not_both, or_left, or_parts, or_right, same_or_apart}
+use Rattle.eco_ids.proofs.Facts.{any_is, id_eq_is, id_eq_itself, not_both, or_left, or_parts, or_right}
 use Rattle.eco_ids.proofs.Gains.{two_is_not_one, same_relationship}
 use Rattle.eco_ids.proofs.Grown.{grown_edition, half_keeps, id_came, id_kept}
-use Rattle.eco_ids.proofs.Keeps.{alive_still, entry_of, has_entry, has_in, some_of}
-use Rattle.eco_ids.proofs.Mirrors.{IsCalm, calm_from, entry_any, held_pair, living_some, mirror_parts, mirrored_of, rest_of, some_living, with_is}
+use Rattle.eco_ids.proofs.Keeps.{alive_still, has_in, some_of}
+use Rattle.eco_ids.proofs.Mirrors.{IsCalm, calm_from, held_pair, living_some, mirror_parts, mirrored_of, rest_of, with_is}
 use Rattle.eco_ids.proofs.Overlaps.{entity_eq_is, entity_eq_itself}
 use Rattle.eco_ids.proofs.Records.{IsWrite}
 
--- With is not exclusive
-with_plain : (w : WorldState) → IsLawful w → IsFalse (is_exclusive w WITH)
-with_plain w l = ap (λ o. has_in o (One EXCLUSIVE)) (l.orderly.builtins WITH (begins w.edition)) ∙ plain w.edition
-  where
-    begins : (d : Edition) → IsTrue (is_builtin (world_of_edition d w.limit) WITH)
-    begins First = refl
-    begins Second = refl
+-- With is a built-in that is not exclusive
+with_begins : (d : Edition) (n : ℕ) → IsTrue (is_builtin (world_of_edition d n) WITH) × IsFalse (has (world_of_edition d n) WITH (One EXCLUSIVE))
+with_begins First n = (refl, refl)
+with_begins Second n = (refl, refl)
 
-    plain : (d : Edition) → IsFalse (has (world_of_edition d w.limit) WITH (One EXCLUSIVE))
-    plain First = refl
-    plain Second = refl
+with_plain : (w : WorldState) → IsLawful w → IsFalse (is_exclusive w WITH)
+with_plain w l = let begins = with_begins w.edition w.limit in ap (λ o. has_in o (One EXCLUSIVE)) (l.orderly.builtins WITH begins.0) ∙ begins.1
 
 -- an item that passes is found
 item_any : (t : Id → Bool) (i : Id) (s : List Id) → IsTrue (has_item id_cmp s i) → IsTrue (t i) → IsTrue (list_any t s)
@@ -44,22 +43,6 @@ module _ (w : WorldState) (e : Entity) (i : Id) (s : List Id) (d : Record) (at :
     (named : IsTrue (names_living w i)) where
   write : IsWrite w e (with_closure w s d) (half w e s)
   write = closure_write w e i s d at
-
-  came_half : (x : Entity) (j : Id) → IsTrue (has (half w e s) x j) → IsTrue (has w x j) ⊎ ((x ≡ e) × IsTrue (has_item id_cmp s j))
-  came_half x j h =
-      elim (same_or_apart x e) as (λ _. IsTrue (has w x j) ⊎ ((x ≡ e) × IsTrue (has_item id_cmp s j))) [
-        | inr n ↦ inl (sym (ap (λ o. has_in o j) (write.apart x n)) ∙ h)
-        | inl same ↦
-            let v = some_of (find id_cmp j (with_closure w s d).held)
-            (sym (ap (λ o. has_in o j) write.at) ∙ ap (λ y. has (half w e s) y j) (sym same) ∙ h) in
-            elim (zeros_entry s (where_key id_cmp (λ k. not (is_replaced w s k)) d.held) j v.0 v.1) as (λ _. IsTrue (has w x j)
-            ⊎ ((x ≡ e) × IsTrue (has_item id_cmp s j))) [
-              | inl m ↦
-                  let old = (kept_entry (λ k. not (is_replaced w s k)) j v.0 d.held m).1 in
-                  inl (ap (λ y. has w y j) same ∙ has_entry w e j d v.0 at old)
-              | inr m ↦ inr (same, m.0)
-            ]
-      ]
 
   -- who holds the mirror lives
   mirror_lives : (m : Entity × Id) → mirror_of w e i ≡ Some m → (q : Record) × (record_of (half w e s) m.0 ≡ Some q)
@@ -84,12 +67,12 @@ module _ (w : WorldState) (e : Entity) (i : Id) (s : List Id) (d : Record) (at :
     where
       by : (o : Option (Entity × Id)) → mirror_of w e i ≡ o → IsTrue (has (with_mirror (half w e s) o) x j) →
           IsTrue (has w x j) ⊎ ((x ≡ e) × IsTrue (has_item id_cmp s j))
-      by None is h = came_half x j h
+      by None is h = closure_came w e i s d at x j h
       by (Some m) is h =
           let p = mirror_parts w e i m is in
           let lives = mirror_lives m is in
           elim (id_came (half w e s) m.0 m.1 lives.0 lives.1 x j h) as (λ _. IsTrue (has w x j) ⊎ ((x ≡ e) × IsTrue (has_item id_cmp s j))) [
-            | inl k ↦ came_half x j k
+            | inl k ↦ closure_came w e i s d at x j k
             | inr q ↦ absurd (plain p.0 e (sym q.1 ∙ ap (λ (y : Entity × Id). y.1) p.4) p.3)
           ]
 
@@ -109,12 +92,8 @@ module _ (w : WorldState) (e : Entity) (i : Id) (s : List Id) (d : Record) (at :
 
     with_unsymmetric : (x r t : Entity) → Two WITH x ≡ Two r t → IsTrue (is_symmetric w r) → ⊥
     with_unsymmetric x r t is h =
-        builtin_plain w WITH l.orderly (begins w.edition)
+        builtin_plain w WITH l.orderly (with_begins w.edition w.limit).0
         (subst (λ y. IsTrue (has w y (One SYMMETRIC))) (sym (same_relationship is)) (second (has_symmetric w.edition) _ h))
-      where
-        begins : (d : Edition) → IsTrue (is_builtin (world_of_edition d w.limit) WITH)
-        begins First = refl
-        begins Second = refl
 
     with_stays : (x : Entity) → IsFalse (is_replaced w s (Two WITH x))
     with_stays x = ap (λ b. b && (list_any (is_pair_of WITH) s && not (has_item id_cmp s (Two WITH x)))) (with_plain w l)
@@ -138,15 +117,6 @@ module _ (w : WorldState) (e : Entity) (i : Id) (s : List Id) (d : Record) (at :
     -- a trait of one who was symmetric before is new
     fresh_trait : (r c : Entity) → (IsTrue (has w r (One c)) → ⊥) → IsTrue (has (grown w e i s) r (One c)) → r ≡ e
     fresh_trait r c none h = elim (came r (One c) (one_plain c) h) as (λ _. r ≡ e) [ inl k ↦ absurd (none k) | inr k ↦ k.0 ]
-
-    held_with : (x y : Entity) → IsTrue (has w x (Two WITH y)) → IsTrue (list_any (λ h. is_with h.0) (held_by w x))
-    held_with x y h =
-        let q = entry_of (record_of w x) (Two WITH y) h in
-        ap (λ (o : Option Record). list_any (λ h. is_with h.0) (unwrap_or (option_map (λ r. r.held) o) [])) q.2
-        ∙ entry_any is_with (Two WITH y) q.1 q.0.held refl q.3
-
-    living_with : (x y : Entity) → IsTrue (has w x (Two WITH y)) → IsTrue (list_any (λ p. has w p.0 (Two WITH y)) (living w))
-    living_with x y h = let q = entry_of (record_of w x) (Two WITH y) h in some_living (λ p. has w p.0 (Two WITH y)) w x q.0 q.2 h
 
     barred_exclusive : IsTrue (is_exclusive w e || has_item id_cmp s (One EXCLUSIVE)) → IsTrue (would_be_barred w e s)
     barred_exclusive h = or_left (is_exclusive w e || has_item id_cmp s (One EXCLUSIVE)) _ h
@@ -183,7 +153,7 @@ module _ (w : WorldState) (e : Entity) (i : Id) (s : List Id) (d : Record) (at :
         | inr m ↦ inl (
           own_symmetric r m.0 sy,
           barred_with (or_left _ _
-              (or_left _ _ (subst (λ y. IsTrue (list_any (λ h. is_with h.0) (held_by w y))) m.0 (held_with r x k)))),
+              (or_left _ _ (subst (λ y. IsTrue (list_any (λ h. is_with h.0) (held_by w y))) m.0 (held_with w r x k)))),
         )
       ]
       | inr k ↦ inl (
@@ -200,7 +170,7 @@ module _ (w : WorldState) (e : Entity) (i : Id) (s : List Id) (d : Record) (at :
         | inr m ↦ inl (
           own_symmetric r m.0 sy,
           barred_with (or_right (list_any (λ h. is_with h.0) (held_by w e) || list_any is_with s) _
-              (subst (λ y. IsTrue (list_any (λ p. has w p.0 (Two WITH y)) (living w))) m.0 (living_with x r k))),
+              (subst (λ y. IsTrue (list_any (λ p. has w p.0 (Two WITH y)) (living w))) m.0 (living_with w x r k))),
         )
       ]
       | inr k ↦ elim (was_or_is r sy) as (λ _. Clashes) [
@@ -353,12 +323,8 @@ quiet_clash w e s l quiet = by (has_symmetric w.edition) refl
           | inr a ↦ let p = any_item (ties_symmetric w) s a in no_with (quiet has_it) (item_any is_with p.0 s p.1 (tie p.0 p.2))
         ]
 
-    false_of : (c : Bool) → (IsTrue c → ⊥) → c ≡ false
-    false_of true f = absurd (f refl)
-    false_of false f = refl
-
     by : (b : Bool) → has_symmetric w.edition ≡ b → IsFalse (would_clash w e s)
-    by true h = ap (λ c. c && Rest) h ∙ false_of Rest (none h)
+    by true h = ap (λ c. c && Rest) h ∙ off Rest (none h)
     by false h = ap (λ c. c && Rest) h
 
 -- so the add of such a closure does

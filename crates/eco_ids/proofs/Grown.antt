@@ -1,5 +1,8 @@
 -- The world that an add leads to: the closure at its entity, and the mirror where there is one.
-use Rattle.eco_ids.proofs.Common.{◌≡◌, Bool, true, false, cond, not, ◌&&◌, ◌||◌, ◌⊎◌, List, [], ◌∷◌, is_some, IsTrue, IsFalse, Some, None, Option, sym, refl}
+use Rattle.eco_ids.proofs.Facts.{only}
+use Rattle.eco_ids.proofs.Adds.{closure_came}
+use Rattle.eco_ids.proofs.Facts.{neither, off}
+use Rattle.eco_ids.proofs.Common.{◌≡◌, false, cond, not, ◌&&◌, ◌||◌, ◌⊎◌, List, [], ◌∷◌, is_some, IsTrue, IsFalse, Some, None, Option, sym, refl}
 use Rattle.eco_ids.proofs.Common.{ap}
 use Rattle.eco_ids.proofs.Common.{◌∙◌, subst, inl, inr, true≢false, find, where_key, list_any, none-some, same_Some, Entity, ACYCLIC, EXCLUSIVE, SYMMETRIC}
 use Rattle.eco_ids.proofs.Common.{Id, Two, One, is_builtin, IsLawful, IsOrderly, IsMirrored}
@@ -8,8 +11,8 @@ use Rattle.eco_ids.proofs.Common.{is_replaced, is_reserved, is_pair_of, InClosur
 use Rattle.eco_ids.proofs.Common.{is_exclusive, is_acyclic, is_symmetric, has_symmetric, mirror_of, at_mirror, has_clash, fits}
 use Rattle.eco_ids.proofs.Adds.{IsClear, half, closure_gains, closure_orderly, closure_present, closure_write, zeros_pass}
 use Rattle.eco_ids.proofs.Ascending.{both, first, second}
-use Rattle.eco_ids.proofs.Closures.{closure_uniform, find_kept, kept_entry, zeros_entry, zero_entry, zero_has, zero_keeps, zero_sorted, zeros_have, zeros_keep}
-use Rattle.eco_ids.proofs.Facts.{id_eq_is, id_eq_itself, or_left, or_parts, same_or_apart}
+use Rattle.eco_ids.proofs.Closures.{closure_uniform, find_kept, zero_entry, zero_has, zero_keeps, zero_sorted, zeros_have, zeros_keep}
+use Rattle.eco_ids.proofs.Facts.{id_eq_itself, or_left, or_parts, same_or_apart}
 use Rattle.eco_ids.proofs.Gains.{Gains, IsUniform, singles, pairs, exclusive_still, acyclic_still, two_is_not_one, same_relationship, same_target}
 use Rattle.eco_ids.proofs.Keeps.{alive_still, has_entry, has_in, orderly_change, some_of}
 use Rattle.eco_ids.proofs.Mirrors.{IsCalm, calm_from, lawful_after, mirror_is, mirror_parts, mirrored_of, symmetric_before}
@@ -99,11 +102,7 @@ module _ (w : WorldState) (i : Id) (calm : IsCalm w) where
 
   -- and it has no pair that a symmetric one replaces
   kept_pair : (s : List Id) (r b : Entity) → IsTrue (is_symmetric w r) → IsFalse (is_replaced w s (Two r b))
-  kept_pair s r b h = ap (λ c. c && (list_any (is_pair_of r) s && not (has_item id_cmp s (Two r b)))) (plain (is_exclusive w r) refl)
-    where
-      plain : (c : Bool) → is_exclusive w r ≡ c → IsFalse (is_exclusive w r)
-      plain true k = absurd (calm.exclusive r h k)
-      plain false k = k
+  kept_pair s r b h = ap (λ c. c && (list_any (is_pair_of r) s && not (has_item id_cmp s (Two r b)))) (off (is_exclusive w r) (calm.exclusive r h))
 
 -- so an add keeps the mirrors, where nothing clashes after it
 pub grows_mirrored : (w : WorldState) (e : Entity) (i : Id) (s : List Id) (new : WorldState) → IsClosure w i s →
@@ -174,10 +173,6 @@ pub may_come : (w : WorldState) (e : Entity) (i : Id) → IsFalse (is_reserved w
     IsFalse (is_builtin w e) × ((m : Entity × Id) → mirror_of w e i ≡ Some m → IsFalse (is_builtin w m.0))
 may_come w e i free = (by (mirror_of w e i) free, λ m is. at m (subst (λ o. (at_mirror (λ x j. is_builtin w x) o || is_builtin w e) ≡ false) is free))
   where
-    neither : (a b : Bool) → (a || b) ≡ false → IsFalse a × IsFalse b
-    neither true b h = absurd (true≢false h)
-    neither false b h = (refl, h)
-
     by : (o : Option (Entity × Id)) → (at_mirror (λ x j. is_builtin w x) o || is_builtin w e) ≡ false → IsFalse (is_builtin w e)
     by o h = (neither (at_mirror (λ x j. is_builtin w x) o) (is_builtin w e) h).1
 
@@ -239,11 +234,8 @@ module _ (h : WorldState) (t : Entity) (j : Id) (d : Record) (at : record_of h t
         acyclic = acyclic_still gains l.acyclic;
       })
     where
-      only : (k : Id) → IsTrue (has_item id_cmp (j ∷ []) k) → j ≡ k
-      only k found = elim (or_parts (id_eq j k) false found) as (λ _. j ≡ k) [ inl p ↦ id_eq_is j k p | inr p ↦ absurd (true≢false (sym p)) ]
-
       none : (c : Entity) → IsTrue (has_item id_cmp (j ∷ []) (One c)) → ⊥
-      none c found = two_is_not_one (sym is ∙ only (One c) found)
+      none c found = two_is_not_one (sym is ∙ only j (One c) found)
 
       the_pair : (q : Entity) → IsTrue (list_any (is_pair_of q) (j ∷ [])) → q ≡ r
       the_pair q found = elim (or_parts (is_pair_of q j) false found) as (λ _. q ≡ r) [
@@ -257,11 +249,11 @@ module _ (h : WorldState) (t : Entity) (j : Id) (d : Record) (at : record_of h t
           | inl m ↦ inl m
           | inr p ↦ inr (p.0, or_left (id_eq j k) false (subst (λ y. IsTrue (id_eq j y)) p.1 (id_eq_itself j)))
         ];
-        uniform = pairs e (λ k found. (r, sym (only k found) ∙ is));
+        uniform = pairs e (λ k found. (r, sym (only j k found) ∙ is));
         evicted = λ q u trait some here. absurd (loose (subst (λ y. IsTrue (is_exclusive h y)) (the_pair q some) trait));
         once_exclusive = λ found. absurd (none EXCLUSIVE found);
         once_acyclic = λ found. absurd (none ACYCLIC found);
-        no_cycle = λ q c. lasting (subst (λ y. IsTrue (is_acyclic h y)) (same_relationship (sym (only (Two q c.1) c.2) ∙ is)) c.0);
+        no_cycle = λ q c. lasting (subst (λ y. IsTrue (is_acyclic h y)) (same_relationship (sym (only j (Two q c.1) c.2) ∙ is)) c.0);
       }
 
 -- the closure leaves what is not replaced
@@ -352,25 +344,11 @@ pub single_before : (w : WorldState) (e : Entity) (i : Id) (s : List Id) (d : Re
     (c x : Entity) → IsTrue (has (grown w e i s) x (One c)) → IsTrue (has w x (One c))
 single_before w e i s d at closure r t is c x = by (mirror_of w e i) refl
   where
-    write : IsWrite w e (with_closure w s d) (half w e s)
-    write = closure_write w e i s d at
-
     none : IsTrue (has_item id_cmp s (One c)) → ⊥
     none = pairs_only w r t s (subst (λ j. IsClosure w j s) is closure) c
 
     first_write : (x : Entity) → IsTrue (has (half w e s) x (One c)) → IsTrue (has w x (One c))
-    first_write x h = elim (same_or_apart x e) as (λ _. IsTrue (has w x (One c))) [
-      | inr n ↦ sym (ap (λ o. has_in o (One c)) (write.apart x n)) ∙ h
-      | inl same ↦
-          let v = some_of (find id_cmp (One c) (with_closure w s d).held)
-          (sym (ap (λ o. has_in o (One c)) write.at) ∙ ap (λ y. has (half w e s) y (One c)) (sym same) ∙ h) in
-          elim (zeros_entry s (where_key id_cmp (λ j. not (is_replaced w s j)) d.held) (One c) v.0 v.1) as (λ _. IsTrue (has w x (One c))) [
-            | inl m ↦
-                let old = (kept_entry (λ j. not (is_replaced w s j)) (One c) v.0 d.held m).1 in
-                ap (λ y. has w y (One c)) same ∙ has_entry w e (One c) d v.0 at old
-            | inr m ↦ absurd (none m.0)
-          ]
-    ]
+    first_write x h = elim (closure_came w e i s d at x (One c) h) as (λ _. IsTrue (has w x (One c))) [ inl k ↦ k | inr n ↦ absurd (none n.1) ]
 
     by : (o : Option (Entity × Id)) → mirror_of w e i ≡ o → IsTrue (has (with_mirror (half w e s) o) x (One c)) → IsTrue (has w x (One c))
     by None k h = first_write x h

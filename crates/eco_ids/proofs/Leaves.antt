@@ -1,4 +1,5 @@
 -- Exactly which ids and values an add and a delete leave.
+use Rattle.eco_ids.proofs.Losses.{nothing_left}
 use Rattle.eco_ids.proofs.Common.{◌≡◌, Bool, true, false, cond, not, List, [], IsTrue, IsFalse, Some, None, Ok, Option, option_map, unwrap_or, sym, subst}
 use Rattle.eco_ids.proofs.Common.{true≢false}
 use Rattle.eco_ids.proofs.Common.{refl, ap, ◌∙◌, arith, MatchOption, MatchBool, Refuses, Answers, changed, unchanged, unfit, Extends, Refusal, Reserved}
@@ -89,13 +90,9 @@ module _ (w : WorldState) (members : List Entity) (x : Entity) where
   gone h = record_left w (has_item entity_cmp members) (λ e i. names_any members i) x
       ∙ ap (λ b. cond b None (option_map (keeping (names_any members)) (record_of w x))) h
 
-  no_value : (b : Bool) → None ≡ cond {A = Option Value} b None None
-  no_value true = refl
-  no_value false = refl
-
   kept_values : (o : Option Record) (j : Id) → find id_cmp j (held_in (option_map (keeping (names_any members)) o))
       ≡ cond (names_any members j) None (find id_cmp j (held_in o))
-  kept_values None j = no_value (names_any members j)
+  kept_values None j = nothing_left (names_any members j)
   kept_values (Some r) j = grind (arith, common_steps, find_kept)
 
   kept_name : (o : Option Record) → option_and_then (λ r. r.name) (option_map (keeping (names_any members)) o) ≡ option_and_then (λ r. r.name) o

@@ -1,12 +1,10 @@
 -- The living entities and what each of them has, as lists to search.
+use Rattle.eco_ids.proofs.Passing.{handle}
 use Rattle.eco_ids.proofs.Common.{◌≡◌, ℕ, zero, suc, ◌+◌, true, false, cond, List, [], ◌∷◌, map, is_some, IsTrue, slice_get, Some, None, Option, option_map}
 use Rattle.eco_ids.proofs.Common.{unwrap_or, sym, refl, subst, inl, inr, true≢false, arith, eqb-true, find, common_steps, Entity, Id, Value, Living, IndexState}
-use Rattle.eco_ids.proofs.Common.{Free, Retired, record_in, living_from, id_cmp, id_eq, WorldState, Record, has, record_of, is_alive, living, held_by}
+use Rattle.eco_ids.proofs.Common.{record_in, living_from, id_cmp, id_eq, WorldState, Record, has, record_of, is_alive, living, held_by}
 use Rattle.eco_ids.proofs.Facts.{id_eq_is}
 use Rattle.eco_ids.proofs.Listable.{In, Decided, decide_as, decide_bool, decide_both, some_of}
-
-abbrev handle : ℕ → ℕ → Entity
-handle n g = record { index = n; generation = g }
 
 abbrev handles_from : ℕ → List (IndexState Record) → List Entity
 handles_from n xs = map (λ p. p.0) (living_from n xs)
@@ -16,13 +14,11 @@ one_on n k g es h = let e : (n + 1) + k ≡ n + suc k = omega arith in subst (λ
 
 state_in : (n : ℕ) (xs : List (IndexState Record)) (k g : ℕ) → IsTrue (is_some (record_in (slice_get xs k) g)) → In (handle (n + k) g) (handles_from n xs)
 state_in n [] k g h = absurd (true≢false (sym h))
-state_in n (Retired ∷ xs) zero g h = absurd (true≢false (sym h))
-state_in n (Free f ∷ xs) zero g h = absurd (true≢false (sym h))
 state_in n (Living f r ∷ xs) zero g h =
     grind (arith, common_steps, eqb-true)
-state_in n (Retired ∷ xs) (suc k) g h = one_on n k g _ (state_in (n + 1) xs k g h)
-state_in n (Free f ∷ xs) (suc k) g h = one_on n k g _ (state_in (n + 1) xs k g h)
 state_in n (Living f r ∷ xs) (suc k) g h = inr (one_on n k g _ (state_in (n + 1) xs k g h))
+state_in n (x ∷ xs) zero g h = absurd (true≢false (sym h))
+state_in n (x ∷ xs) (suc k) g h = one_on n k g _ (state_in (n + 1) xs k g h)
 
 abbrev pub the_living : WorldState → List Entity
 the_living w = map (λ p. p.0) (living w)

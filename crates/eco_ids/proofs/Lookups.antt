@@ -1,7 +1,7 @@
 -- Who is found by a name is who has it.
 use Rattle.eco_ids.proofs.Common.{◌≡◌, ℕ, suc, ◌+◌, Bool, true, false, cond, List, [], ◌∷◌, ◌↔◌, IsTrue, slice_get, Some, None, Option, option_map, sym}
 use Rattle.eco_ids.proofs.Common.{refl, ap, ◌∙◌, subst, arith, eq-eqb, option_and_then, same_Some, none-some, option_and_then_some, Entity}
-use Rattle.eco_ids.proofs.Common.{Living, IndexState, Free, Retired, record_in, living_from, IsLawful, is_called, lookup, WorldState, Record, record_of, living}
+use Rattle.eco_ids.proofs.Common.{Living, IndexState, record_in, living_from, IsLawful, is_called, lookup, WorldState, Record, record_of, living}
 use Rattle.std.specs.Prelude.{find as find_item}
 use Rattle.eco_ids.specs.Step.{own_name}
 use Rattle.eco_ids.proofs.Births.{called, lookup_some}
@@ -24,8 +24,6 @@ later name n x xs p m =
 found : (name : List ℕ) (n : ℕ) (xs : List (IndexState Record)) (p : Entity × Record) → find_item (λ q. is_called name q.1.name) (living_from n xs) ≡ Some p
     → IsFound name n xs p
 found name n [] p h = absurd (none-some p h)
-found name n (Retired ∷ xs) p h = later name n Retired xs p (found name (n + 1) xs p h)
-found name n (Free f ∷ xs) p h = later name n (Free f) xs p (found name (n + 1) xs p h)
 found name n (Living f r ∷ xs) p h = by (is_called name r.name) refl h (found name (n + 1) xs p)
   where
     by : {rest : Option (Entity × Record)} (b : Bool) → is_called name r.name ≡ b → cond b (Some (record { index = n; generation = f }, r)) rest ≡ Some p
@@ -37,6 +35,7 @@ found name n (Living f r ∷ xs) p h = by (is_called name r.name) refl h (found 
       called_so = called_so;
     })
     by false other is go = later name n (Living f r) xs p (go is)
+found name n (x ∷ xs) p h = later name n x xs p (found name (n + 1) xs p h)
 
 -- who is looked up has the name
 has_name : (w : WorldState) (name : List ℕ) (e : Entity) → lookup w name ≡ Some e → own_name w e ≡ Some name

@@ -1,7 +1,8 @@
 -- A loss as changes of single entities, one after another.
+use Rattle.eco_ids.proofs.Facts.{entity_eq_sym, neither, off}
 use Rattle.eco_ids.proofs.Common.{◌≡◌, ℕ, suc, ◌+◌, arith, Bool, true, false, cond, not, ◌&&◌, ◌||◌, List, [], ◌∷◌, is_some, IsTrue, IsFalse, fold, sym, refl}
 use Rattle.eco_ids.proofs.Common.{ap, ◌∙◌, subst}
-use Rattle.eco_ids.proofs.Common.{Some, None, Option, true≢false, find, where_key, Entity, Id, Value, Living, IndexState, Free, Retired, nobody, without}
+use Rattle.eco_ids.proofs.Common.{Some, None, Option, true≢false, find, where_key, Entity, Id, Value, Living, IndexState, nobody, without}
 use Rattle.eco_ids.proofs.Common.{keeping}
 use Rattle.eco_ids.proofs.Common.{id_cmp, id_eq, entity_eq, has_item, entity_cmp, changed, WorldState, Record, has, record_of, entities, slice_get, Two, One}
 use Rattle.eco_ids.proofs.Common.{IsLawful, mirror_of, at_mirror, goes_too}
@@ -22,7 +23,7 @@ use Rattle.eco_ids.proofs.States.{record_at}
 twice_kept : (p q : Id → Bool) (es : List (Id × Value)) →
     where_key id_cmp (λ i. not (q i)) (where_key id_cmp (λ i. not (p i)) es) ≡ where_key id_cmp (λ i. not (p i || q i)) es
 twice_kept p q [] = refl
-twice_kept p q (e ∷ es) = by (twice_kept p q es) (p e.0) refl (q e.0) refl
+twice_kept p q (e ∷ es) = by (twice_kept p q es) (p e.0)
   where
     rest : List (Id × Value)
     rest = where_key id_cmp (λ i. not (p i)) es
@@ -30,30 +31,20 @@ twice_kept p q (e ∷ es) = by (twice_kept p q es) (p e.0) refl (q e.0) refl
     both : List (Id × Value)
     both = where_key id_cmp (λ i. not (p i || q i)) es
 
-    by : where_key id_cmp (λ i. not (q i)) rest ≡ both → (b : Bool) → p e.0 ≡ b → (c : Bool) → q e.0 ≡ c →
-        where_key id_cmp (λ i. not (q i)) (cond (not (p e.0)) (e ∷ rest) rest) ≡ cond (not (p e.0 || q e.0)) (e ∷ both) both
-    by again true h c k =
-        ap (λ x. where_key id_cmp (λ i. not (q i)) (cond (not x) (e ∷ rest) rest)) h ∙ again ∙ sym (ap (λ x. cond (not (x || q e.0)) (e ∷ both) both) h)
-    by again false h true k =
-        ap (λ x. where_key id_cmp (λ i. not (q i)) (cond (not x) (e ∷ rest) rest)) h
-        ∙ ap (λ x. cond (not x) (e ∷ where_key id_cmp (λ i. not (q i)) rest) (where_key id_cmp (λ i. not (q i)) rest)) k ∙ again
-        ∙ sym (ap (λ x. cond (not (x || q e.0)) (e ∷ both) both) h ∙ ap (λ x. cond (not x) (e ∷ both) both) k)
-    by again false h false k =
-        ap (λ x. where_key id_cmp (λ i. not (q i)) (cond (not x) (e ∷ rest) rest)) h
-        ∙ ap (λ x. cond (not x) (e ∷ where_key id_cmp (λ i. not (q i)) rest) (where_key id_cmp (λ i. not (q i)) rest)) k
-        ∙ ap (λ xs. e ∷ xs) (again)
-        ∙ sym (ap (λ x. cond (not (x || q e.0)) (e ∷ both) both) h ∙ ap (λ x. cond (not x) (e ∷ both) both) k)
+    by : where_key id_cmp (λ i. not (q i)) rest ≡ both → (b : Bool) →
+        where_key id_cmp (λ i. not (q i)) (cond (not b) (e ∷ rest) rest) ≡ cond (not (b || q e.0)) (e ∷ both) both
+    by again true = again
+    by again false = λ t. cond (not (q e.0)) (e ∷ again t) (again t)
 
 states_twice : (g h : Entity → Id → Bool) (n : ℕ) (xs : List (IndexState Record)) →
     map_from (left_at nobody h) n (map_from (left_at nobody g) n xs) ≡ map_from (left_at nobody (λ x i. g x i || h x i)) n xs
 states_twice g h n [] = refl
-states_twice g h n (Retired ∷ xs) = ap (λ ys. Retired ∷ ys) (states_twice g h (n + 1) xs)
-states_twice g h n (Free k ∷ xs) = ap (λ ys. Free k ∷ ys) (states_twice g h (n + 1) xs)
 states_twice g h n (Living k r ∷ xs) =
     let e : Entity = record { index = n; generation = k } in
     let here = twice_kept (g e) (h e) r.held in
     let rest = states_twice g h (n + 1) xs in
     λ t. Living k (record r { held = here t }) ∷ rest t
+states_twice g h n (x ∷ xs) = ap (λ ys. x ∷ ys) (states_twice g h (n + 1) xs)
 
 pub without_then : (w : WorldState) (g h : Entity → Id → Bool) → without (without w nobody g) nobody h ≡ without w nobody (λ x i. g x i || h x i)
 without_then w g h = ap (λ xs. record w { indices = xs }) (states_twice g h 0 w.indices)
@@ -87,8 +78,6 @@ states_alike : (g h : Entity → Id → Bool) (n : ℕ) (xs : List (IndexState R
     g (record { index = n + k; generation = m }) i ≡ h (record { index = n + k; generation = m }) i) →
     map_from (left_at nobody g) n xs ≡ map_from (left_at nobody h) n xs
 states_alike g h n [] same = refl
-states_alike g h n (Retired ∷ xs) same = ap (λ ys. Retired ∷ ys) (states_alike g h (n + 1) xs (one_on g h n Retired xs same))
-states_alike g h n (Free k ∷ xs) same = ap (λ ys. Free k ∷ ys) (states_alike g h (n + 1) xs (one_on g h n (Free k) xs same))
 states_alike g h n (Living m r ∷ xs) same =
     let e : Entity = record { index = n; generation = m } in
     let at : n + 0 ≡ n = omega arith in
@@ -96,6 +85,7 @@ states_alike g h n (Living m r ∷ xs) same =
     subst (λ k. g (record { index = k; generation = m }) i ≡ h (record { index = k; generation = m }) i) at (same 0 m r refl i there)) in
     let rest = states_alike g h (n + 1) xs (one_on g h n (Living m r) xs same) in
     λ t. Living m (record r { held = here t }) ∷ rest t
+states_alike g h n (x ∷ xs) same = ap (λ ys. x ∷ ys) (states_alike g h (n + 1) xs (one_on g h n x xs same))
 
 pub without_alike : (w : WorldState) (g h : Entity → Id → Bool) → ((x : Entity) (i : Id) → IsTrue (has w x i) → g x i ≡ h x i) →
     without w nobody g ≡ without w nobody h
@@ -111,9 +101,8 @@ without_nothing w = ap (λ xs. record w { indices = xs }) (go 0 w.indices)
   where
     go : (n : ℕ) (xs : List (IndexState Record)) → map_from (left_at nobody (λ x i. false)) n xs ≡ xs
     go n [] = refl
-    go n (Retired ∷ xs) = ap (λ ys. Retired ∷ ys) (go (n + 1) xs)
-    go n (Free k ∷ xs) = ap (λ ys. Free k ∷ ys) (go (n + 1) xs)
     go n (Living k r ∷ xs) = let here = keeps_all (λ i. false) r (λ i _. refl) in let rest = go (n + 1) xs in λ t. Living k (here t) ∷ rest t
+    go n (x ∷ xs) = ap (λ ys. x ∷ ys) (go (n + 1) xs)
 
 -- the entities lose what goes from each, one after another
 abbrev pub one_by_one : (Entity → Id → Bool) → WorldState → List Entity → WorldState
@@ -125,37 +114,16 @@ of_these goes es x i = has_item entity_cmp es x && goes x i
 
 some_more : (goes : Entity → Id → Bool) (e : Entity) (es : List Entity) (x : Entity) (i : Id) →
     of_these goes (e ∷ es) x i ≡ ((entity_eq x e && goes e i) || of_these goes es x i)
-some_more goes e es x i = by (entity_eq e x) refl
+some_more goes e es x i = ap (λ b. (b || has_item entity_cmp es x) && goes x i) (entity_eq_sym e x) ∙ by (entity_eq x e) refl
   where
-    turned : (b : Bool) → entity_eq e x ≡ b → entity_eq x e ≡ b
-    turned true h = subst (λ y. entity_eq y e ≡ true) (entity_eq_is e x h) (subst (λ y. entity_eq e y ≡ true) (sym (entity_eq_is e x h)) h)
-    turned false h = other (entity_eq x e) refl
-      where
-        other : (c : Bool) → entity_eq x e ≡ c → entity_eq x e ≡ false
-        other true k = absurd (true≢false (sym (subst (λ y. entity_eq e y ≡ true) (sym (entity_eq_is x e k))
-            (subst (λ y. entity_eq y e ≡ true) (entity_eq_is x e k) k)) ∙ h))
-        other false k = k
-
-    same_goes : (b c : Bool) → ((b || c) && b) ≡ (b || (c && b))
-    same_goes true true = refl
-    same_goes true false = refl
-    same_goes false true = refl
-    same_goes false false = refl
-
     absorbed : (b c : Bool) → b ≡ (b || (c && b))
     absorbed true c = refl
     absorbed false true = refl
     absorbed false false = refl
 
-    by : (b : Bool) → entity_eq e x ≡ b → ((entity_eq e x || has_item entity_cmp es x) && goes x i) ≡
-        ((entity_eq x e && goes e i) || (has_item entity_cmp es x && goes x i))
-    by true h =
-        ap (λ b. (b || has_item entity_cmp es x) && goes x i) h ∙ absorbed (goes x i) (has_item entity_cmp es x)
-        ∙ sym (ap (λ b. (b && goes e i) || (has_item entity_cmp es x && goes x i)) (turned true h)
-        ∙ ap (λ y. goes y i || (has_item entity_cmp es x && goes x i)) (entity_eq_is e x h))
-    by false h =
-        ap (λ b. (b || has_item entity_cmp es x) && goes x i) h
-        ∙ sym (ap (λ b. (b && goes e i) || (has_item entity_cmp es x && goes x i)) (turned false h))
+    by : (b : Bool) → entity_eq x e ≡ b → ((b || has_item entity_cmp es x) && goes x i) ≡ ((b && goes e i) || (has_item entity_cmp es x && goes x i))
+    by true k = absorbed (goes x i) (has_item entity_cmp es x) ∙ ap (λ y. goes y i || (has_item entity_cmp es x && goes x i)) (entity_eq_is x e k)
+    by false k = refl
 
 these_lose : (goes : Entity → Id → Bool) (w : WorldState) (es : List Entity) → without w nobody (of_these goes es) ≡ one_by_one goes w es
 these_lose goes w [] = without_nothing w
@@ -210,10 +178,6 @@ stays_there : (w : WorldState) (goes : Entity → Id → Bool) (x : Entity) (j :
     ((r t : Entity) → j ≡ Two r t → IsTrue (is_symmetric w r) → IsTrue (goes t (Two r x)) → ⊥) → IsFalse (goes_too w goes x j)
 stays_there w goes x j stays mirror = by (mirror_of w x j) refl
   where
-    off : (b : Bool) → (IsTrue b → ⊥) → IsFalse b
-    off true f = absurd (f refl)
-    off false f = refl
-
     by : (o : Option (Entity × Id)) → mirror_of w x j ≡ o → IsFalse (goes_too w goes x j)
     by None is = ap (λ o. at_mirror goes o || goes x j) is ∙ stays
     by (Some m) is =
@@ -223,31 +187,19 @@ stays_there w goes x j stays mirror = by (mirror_of w x j) refl
         ap (λ o. at_mirror goes o || goes x j) is ∙ ap (λ b. b || goes x j) gone ∙ stays
 
 turned_apart : (e x : Entity) → IsFalse (entity_eq e x) → IsFalse (entity_eq x e)
-turned_apart e x h = off (entity_eq x e) (λ k. not_both (subst (λ y. IsTrue (entity_eq y x)) (entity_eq_is x e k) (entity_eq_itself x)) h)
-  where
-    off : (b : Bool) → (IsTrue b → ⊥) → IsFalse b
-    off true f = absurd (f refl)
-    off false f = refl
-
-first_in : (a b : Bool) → IsFalse (a || b) → IsFalse a
-first_in true b h = absurd (true≢false h)
-first_in false b h = refl
-
-second_in : (a b : Bool) → IsFalse (a || b) → IsFalse b
-second_in true b h = absurd (true≢false h)
-second_in false b h = h
+turned_apart e x h = entity_eq_sym x e ∙ h
 
 -- a remove changes its entity, and the holder of the mirror where there is one
 pub remove_moves : (w : WorldState) (e : Entity) (i : Id) →
     without w nobody (goes_too w (λ x j. entity_eq x e && id_eq j i))
     ≡ one_by_one (goes_too w (λ x j. entity_eq x e && id_eq j i)) w (e ∷ mirror_holders w e (i ∷ []))
 remove_moves w e i = losses_one_by_one w (goes_too w goes) (e ∷ mirror_holders w e (i ∷ [])) (λ x j there apart.
-    stays_there w goes x j (ap (λ b. b && id_eq j i) (turned_apart e x (first_in (entity_eq e x) _ apart)))
+    stays_there w goes x j (ap (λ b. b && id_eq j i) (turned_apart e x (neither (entity_eq e x) _ apart).0))
     (λ r t is symmetric gone.
     let at : t ≡ e = entity_eq_is t e (first (entity_eq t e) (id_eq (Two r x) i) gone) in
     let same : Two r x ≡ i = id_eq_is (Two r x) i (second (entity_eq t e) (id_eq (Two r x) i) gone) in
     let mirror : mirror_of w e i ≡ Some (x, Two r e) = ap (mirror_of w e) (sym same) ∙ mirror_is w e r x symmetric in
-    not_both (among_holders w e (i ∷ []) i (x, Two r e) (or_left (id_eq i i) false (id_eq_itself i)) mirror) (second_in (entity_eq e x) _ apart)))
+    not_both (among_holders w e (i ∷ []) i (x, Two r e) (or_left (id_eq i i) false (id_eq_itself i)) mirror) (neither (entity_eq e x) _ apart).1))
   where
     goes : Entity → Id → Bool
     goes x j = entity_eq x e && id_eq j i
@@ -257,13 +209,13 @@ pub clear_moves : (w : WorldState) (e : Entity) (d : Record) → IsLawful w → 
     without w nobody (goes_too w (λ x j. entity_eq x e))
     ≡ one_by_one (goes_too w (λ x j. entity_eq x e)) w (e ∷ mirror_holders w e (keys d.held))
 clear_moves w e d l at = losses_one_by_one w (goes_too w goes) (e ∷ mirror_holders w e (keys d.held)) (λ x j there apart.
-    stays_there w goes x j (turned_apart e x (first_in (entity_eq e x) _ apart))
+    stays_there w goes x j (turned_apart e x (neither (entity_eq e x) _ apart).0)
     (λ r t is symmetric gone.
     let here : t ≡ e = entity_eq_is t e gone in
     let edge : IsTrue (has w x (Two r e)) = subst (λ y. IsTrue (has w x (Two r y))) here (subst (λ k. IsTrue (has w x k)) is there) in
     let back : IsTrue (has w e (Two r x)) = (mirrored_of w l (first (has_symmetric w.edition) _ symmetric)).mirrors r x e symmetric edge in
     let listed : IsTrue (has_item id_cmp (keys d.held) (Two r x)) = sym (keys_find d.held (Two r x)) ∙ sym (ap (λ o. has_in o (Two r x)) at) ∙ back in
-    not_both (among_holders w e (keys d.held) (Two r x) (x, Two r e) listed (mirror_is w e r x symmetric)) (second_in (entity_eq e x) _ apart)))
+    not_both (among_holders w e (keys d.held) (Two r x) (x, Two r e) listed (mirror_is w e r x symmetric)) (neither (entity_eq e x) _ apart).1))
   where
     goes : Entity → Id → Bool
     goes x j = entity_eq x e
@@ -286,10 +238,6 @@ remove_all_moves w i holders all = losses_one_by_one w (goes_too w goes) (symmet
   where
     goes : Entity → Id → Bool
     goes x j = id_eq j i
-
-    off : (b : Bool) → (IsTrue b → ⊥) → IsFalse b
-    off true f = absurd (f refl)
-    off false f = refl
 
     split : (x : Entity) → has_item entity_cmp (symmetric_target w i ++ holders) x ≡
         (has_item entity_cmp (symmetric_target w i) x || has_item entity_cmp holders x)

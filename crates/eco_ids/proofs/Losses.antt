@@ -1,4 +1,5 @@
 -- What a loss leaves, and that remove, clear and remove_all keep a lawful world lawful.
+use Rattle.eco_ids.proofs.Facts.{off}
 use Rattle.eco_ids.proofs.Common.{◌≡◌, ℕ, zero, suc, ◌+◌, ◌<◌, ◌≤◌, Bool, true, false, cond, not, ◌&&◌, ◌||◌, List, [], ◌∷◌, map, length, is_some, IsTrue}
 use Rattle.eco_ids.proofs.Common.{IsFalse, nat_lt, nat_le, ◌==◌, slice_get, Some, None, MatchBool, Option, Result, MatchOption, option_map, sym, refl, ap, ◌∙◌}
 use Rattle.eco_ids.proofs.Common.{subst, arith, ltb-true, eq-eqb, eqb-true, le-leb, find, where_key, is_sorted-where_key, list_any, list_all, range_with_len}
@@ -38,7 +39,7 @@ raised_proper g = grind (arith, common_steps, ltb-true, le-leb)
 raised_dead : (g h : ℕ) → record_in {A = Record} (Some (raised g)) h ≡ None
 raised_dead g h = elim (nat_lt g 65535) as (λ b. record_in {A = Record} (Some (cond b (Free (g + 1)) Retired)) h ≡ None) [ true ↦ refl | false ↦ refl ]
 
-nothing_left : (b : Bool) → ◌≡◌ {A = Option Record} None (cond b None None)
+pub nothing_left : {A : Type 0} (b : Bool) → ◌≡◌ {A = Option A} None (cond b None None)
 nothing_left true = refl
 nothing_left false = refl
 
@@ -219,11 +220,8 @@ acts_lawful : (w : WorldState) (e : Entity) (goes : Entity → Id → Bool) (r :
 acts_lawful w e goes r new own l =
     unless_refused w (unfit_actor w e) _ r new l
     (λ fit. loses_lawful w goes r new l
-    (λ x i h _. own x i (apart x h (passed (is_builtin w e) Reserved _ (passed (not (is_alive w e)) NotAlive _ fit).1).0 (entity_eq x e) refl)))
-  where
-    apart : (x : Entity) → IsTrue (is_builtin w x) → IsFalse (is_builtin w e) → (b : Bool) → entity_eq x e ≡ b → IsFalse b
-    apart x h ordinary true k = absurd (not_both (subst (λ y. IsTrue (is_builtin w y)) (entity_eq_is x e k) h) ordinary)
-    apart x h ordinary false k = refl
+    (λ x i h _. own x i (off (entity_eq x e) (λ k. not_both (subst (λ y. IsTrue (is_builtin w y)) (entity_eq_is x e k) h)
+    (passed (is_builtin w e) Reserved _ (passed (not (is_alive w e)) NotAlive _ fit).1).0))))
 
 pub removes_lawful : (w : WorldState) (e : Entity) (i : Id) (r : Result (Unit {0}) Refusal) (new : WorldState) → IsLawful w → Removes w e i r new → IsLawful new
 removes_lawful w e i r new = acts_lawful w e (λ x j. entity_eq x e && id_eq j i) r new (λ x j h. ap (λ b. b && id_eq j i) h)
@@ -259,12 +257,9 @@ pub removes_all_lawful : (w : WorldState) (i : Id) (r : Result (Unit {0}) Refusa
 removes_all_lawful w i r new l =
     elim (is_builtins w i) as (λ b. is_builtins w i ≡ b → MatchBool b (Refuses Reserved w r new) (Loses w (λ x j. id_eq j i) r new) → IsLawful new) [
       | true ↦ λ e a. subst IsLawful (sym a.1) l
-      | false ↦ λ e. loses_lawful w (λ x j. id_eq j i) r new l (λ x j h there. other x j h there e (id_eq j i) refl)
+      | false ↦ λ e. loses_lawful w (λ x j. id_eq j i) r new l (λ x j h there. off (id_eq j i) (λ k.
+          not_both (builtin_has w i x h (subst (λ y. IsTrue (has w x y)) (id_eq_is j i k) there)) e))
     ] refl
-  where
-    other : (x : Entity) (j : Id) → IsTrue (is_builtin w x) → IsTrue (has w x j) → IsFalse (is_builtins w i) → (b : Bool) → id_eq j i ≡ b → IsFalse b
-    other x j h there none true k = absurd (not_both (builtin_has w i x h (subst (λ y. IsTrue (has w x y)) (id_eq_is j i k) there)) none)
-    other x j h there none false k = refl
 
 -- ---- losses of one entity, and from all
 
@@ -331,9 +326,8 @@ without_one w e goes = ap (λ xs. record w { indices = xs }) (one_left e goes 0 
 -- what goes from all goes from each record
 from_each : (goes : Id → Bool) (n : ℕ) (xs : List (IndexState Record)) → map_from (left_at nobody (λ x j. goes j)) n xs ≡ map (map_state (keeping goes)) xs
 from_each goes n [] = refl
-from_each goes n (Retired ∷ xs) = ap (λ ys. Retired ∷ ys) (from_each goes (n + 1) xs)
-from_each goes n (Free g ∷ xs) = ap (λ ys. Free g ∷ ys) (from_each goes (n + 1) xs)
 from_each goes n (Living g r ∷ xs) = ap (λ ys. Living g (keeping goes r) ∷ ys) (from_each goes (n + 1) xs)
+from_each goes n (x ∷ xs) = ap (λ ys. x ∷ ys) (from_each goes (n + 1) xs)
 
 pub without_from_all : (w : WorldState) (goes : Id → Bool) → without w nobody (λ x j. goes j) ≡ record w { indices = map (map_state (keeping goes)) w.indices }
 without_from_all w goes = ap (λ xs. record w { indices = xs }) (from_each goes 0 w.indices)

@@ -1,5 +1,8 @@
 -- Worked rows of the second edition, computed.
-use Rattle.eco_ids.proofs.Common.{◌≡◌, ℕ, false, map, refl, sym, ap, subst, true≢false, IsTrue, IsFalse, List, [], ◌∷◌, ◌++◌, Some, None, Ok, Err, ◌||◌, inl}
+use Rattle.eco_ids.proofs.Facts.{only}
+use Rattle.eco_ids.proofs.Gains.{same_relationship}
+use Rattle.eco_ids.proofs.Common.{Judges, grown, changed, Answers, Refuses, unchanged, with_value, MatchOption, Extends, Option, Result, Refusal}
+use Rattle.eco_ids.proofs.Common.{◌≡◌, ℕ, false, map, refl, sym, ap, subst, true≢false, IsTrue, IsFalse, List, [], ◌∷◌, ◌++◌, Some, None, Ok, Err, ◌||◌}
 use Rattle.eco_ids.proofs.Common.{inr, pos, codes}
 use Rattle.eco_ids.specs.declared.edition.Edition.TheVariants.{First, Second}
 use Rattle.eco_ids.specs.declared.entity.Entity.{Entity}
@@ -16,22 +19,11 @@ use Rattle.eco_ids.specs.Order.{id_cmp, id_eq, has_item}
 use Rattle.eco_ids.specs.Step.{Adds, Sets, Removes, Clears, RemovesAll, IsClosure, ClosesCycle}
 use Rattle.eco_ids.specs.Traits.{Brings, InClosure}
 use Rattle.eco_ids.specs.World.{WorldState, Record, world_of_edition, zeros, has, is_acyclic, held_by}
-use Rattle.eco_ids.proofs.Facts.{id_eq_is, or_parts, not_both}
+use Rattle.eco_ids.proofs.Facts.{id_eq_itself, not_both}
 
 -- ---- closures of one id
 
-pub only : (i j : Id) → IsTrue (has_item id_cmp (i ∷ []) j) → i ≡ j
-only i j h = elim (or_parts (id_eq i j) false h) as (λ _. i ≡ j) [ inl k ↦ id_eq_is i j k | inr k ↦ absurd (true≢false (sym k)) ]
-
-relationship_or : Entity → Id → Entity
-relationship_or d (One e) = d
-relationship_or d (Two r t) = r
-
-same_relationship : {r s t u : Entity} → Two r t ≡ Two s u → r ≡ s
-unfolding relationship_or
-same_relationship {r = r} e = ap (relationship_or r) e
-
-alone : (w : WorldState) (i : Id) → IsTrue (id_eq i i) → ((k : Id) → Brings w i k → ⊥) → IsClosure w i (i ∷ [])
+pub alone : (w : WorldState) (i : Id) → IsTrue (id_eq i i) → ((k : Id) → Brings w i k → ⊥) → IsClosure w i (i ∷ [])
 alone w i self none = record { ascending = refl; exact = λ j. (inside j, outside j) }
   where
     inside : (j : Id) → IsTrue (has_item id_cmp (i ∷ []) j) → InClosure w i j
@@ -44,7 +36,7 @@ alone w i self none = record { ascending = refl; exact = λ j. (inside j, outsid
     outside j (root at) = subst (λ k. IsTrue (has_item id_cmp (i ∷ []) k)) (sym at) here
     outside j (next {a = a} before b) = absurd (none j (subst (λ k. Brings w k j) (sym (only i a (outside a before))) b))
 
-lone_pair : (w : WorldState) (r t : Entity) → ((x : Entity) → IsFalse (has w r (Two WITH x))) → (k : Id) → Brings w (Two r t) k → ⊥
+pub lone_pair : (w : WorldState) (r t : Entity) → ((x : Entity) → IsFalse (has w r (Two WITH x))) → (k : Id) → Brings w (Two r t) k → ⊥
 lone_pair w r t none (One x) b = absurd b
 lone_pair w r t none (Two x u) b = not_both b.0 (none x)
 
@@ -57,6 +49,18 @@ calm_pair w e q u free r c = not_both (subst (λ x. IsTrue (is_acyclic w x)) (sy
 
 calm_single : (w : WorldState) (e s r : Entity) → ClosesCycle w e (One s ∷ []) r → ⊥
 calm_single w e s r c = true≢false (sym c.2)
+
+-- an add of a pair, or of a single id, that brings nothing with it
+module _ (w : WorldState) (x : Entity) (besides : Record → Record) (verdict : Option Refusal) (r : Result (Unit {0}) Refusal) (new : WorldState) where
+  abbrev IsAdded : Id → Type 0
+  IsAdded i = Judges w x (i ∷ []) (grown w x i (i ∷ [])) verdict
+      → MatchOption verdict (Answers tt (changed (grown w x i (i ∷ [])) x besides) r new) (λ why. Refuses why w r new) → Extends w x i besides r new
+
+  pair_added : (q u : Entity) → ((y : Entity) → IsFalse (has w q (Two WITH y))) → IsAdded (Two q u)
+  pair_added q u none judged ends = (Two q u ∷ [], alone w (Two q u) (id_eq_itself (Two q u)) (lone_pair w q u none), verdict, judged, ends)
+
+  single_added : (c : Entity) → ((y : Entity) → IsFalse (has w c (Two WITH y))) → IsAdded (One c)
+  single_added c none judged ends = (One c ∷ [], alone w (One c) (id_eq_itself (One c)) (lone_single w c none), verdict, judged, ends)
 
 -- ---- worlds
 
@@ -84,26 +88,18 @@ begun = four S [] [] []
 
 -- each row begins with: add Friend Symmetric, `ok`
 begin : Adds (four [] [] [] []) (e 10) (One SYMMETRIC) (Ok tt) begun
-begin = (
-  S,
-  alone (four [] [] [] []) (One SYMMETRIC) refl (lone_single (four [] [] [] []) SYMMETRIC (λ x. refl)),
-  None,
-  (None, calm_single (four [] [] [] []) (e 10) SYMMETRIC, refl),
-  (refl, refl),
-)
+begin =
+    single_added (four [] [] [] []) (e 10) unchanged None (Ok tt) begun SYMMETRIC
+    (λ x. refl) (None, calm_single (four [] [] [] []) (e 10) SYMMETRIC, refl) (refl, refl)
 
 -- ---- row 1
 abbrev ab : WorldState
 ab = four S (with 12 ∷ []) (with 11 ∷ []) []
 
 row1_add : Adds begun (e 11) (with 12) (Ok tt) ab
-row1_add = (
-  with 12 ∷ [],
-  alone begun (with 12) refl (lone_pair begun (e 10) (e 12) (λ x. refl)),
-  None,
-  (None, calm_pair begun (e 11) (e 10) (e 12) refl, refl),
-  (refl, refl),
-)
+row1_add =
+    pair_added begun (e 11) unchanged None (Ok tt) ab (e 10) (e 12)
+    (λ x. refl) (None, calm_pair begun (e 11) (e 10) (e 12) refl, refl) (refl, refl)
 
 row1_show_b : held_by ab (e 12) ≡ (with 11, zeros) ∷ []
 row1_show_b = refl
@@ -113,65 +109,41 @@ row1_remove = (refl, refl)
 
 -- a pair with itself is its own mirror
 row1_self : Adds begun (e 11) (with 11) (Ok tt) (four S (with 11 ∷ []) [] [])
-row1_self = (
-  with 11 ∷ [],
-  alone begun (with 11) refl (lone_pair begun (e 10) (e 11) (λ x. refl)),
-  None,
-  (None, calm_pair begun (e 11) (e 10) (e 11) refl, refl),
-  (refl, refl),
-)
+row1_self =
+    pair_added begun (e 11) unchanged None (Ok tt) (four S (with 11 ∷ []) [] []) (e 10) (e 11)
+    (λ x. refl) (None, calm_pair begun (e 11) (e 10) (e 11) refl, refl) (refl, refl)
 
 row1_unself : Removes (four S (with 11 ∷ []) [] []) (e 11) (with 11) (Ok tt) begun
 row1_unself = (refl, refl)
 
 -- ---- row 2
 row2_exclusive : Adds begun (e 10) (One EXCLUSIVE) (Err TraitClash) begun
-row2_exclusive = (
-  One EXCLUSIVE ∷ [],
-  alone begun (One EXCLUSIVE) refl (lone_single begun EXCLUSIVE (λ x. refl)),
-  Some TraitClash,
-  (None, calm_single begun (e 10) EXCLUSIVE, refl),
-  (refl, refl),
-)
+row2_exclusive =
+    single_added begun (e 10) unchanged (Some TraitClash) (Err TraitClash) begun EXCLUSIVE
+    (λ x. refl) (None, calm_single begun (e 10) EXCLUSIVE, refl) (refl, refl)
 
 row2_target : Adds begun (e 11) (Two WITH (e 10)) (Err TraitClash) begun
-row2_target = (
-  Two WITH (e 10) ∷ [],
-  alone begun (Two WITH (e 10)) refl (lone_pair begun WITH (e 10) (λ x. refl)),
-  Some TraitClash,
-  (None, calm_pair begun (e 11) WITH (e 10) refl, refl),
-  (refl, refl),
-)
+row2_target =
+    pair_added begun (e 11) unchanged (Some TraitClash) (Err TraitClash) begun WITH (e 10)
+    (λ x. refl) (None, calm_pair begun (e 11) WITH (e 10) refl, refl) (refl, refl)
 
 row2_with : Adds begun (e 10) (Two WITH (e 11)) (Err TraitClash) begun
-row2_with = (
-  Two WITH (e 11) ∷ [],
-  alone begun (Two WITH (e 11)) refl (lone_pair begun WITH (e 11) (λ x. refl)),
-  Some TraitClash,
-  (None, calm_pair begun (e 10) WITH (e 11) refl, refl),
-  (refl, refl),
-)
+row2_with =
+    pair_added begun (e 10) unchanged (Some TraitClash) (Err TraitClash) begun WITH (e 11)
+    (λ x. refl) (None, calm_pair begun (e 10) WITH (e 11) refl, refl) (refl, refl)
 
 abbrev acyclic_b : WorldState
 acyclic_b = four S [] (One ACYCLIC ∷ []) []
 
 row2_acyclic : Adds begun (e 12) (One ACYCLIC) (Ok tt) acyclic_b
-row2_acyclic = (
-  One ACYCLIC ∷ [],
-  alone begun (One ACYCLIC) refl (lone_single begun ACYCLIC (λ x. refl)),
-  None,
-  (None, calm_single begun (e 12) ACYCLIC, refl),
-  (refl, refl),
-)
+row2_acyclic =
+    single_added begun (e 12) unchanged None (Ok tt) acyclic_b ACYCLIC
+    (λ x. refl) (None, calm_single begun (e 12) ACYCLIC, refl) (refl, refl)
 
 row2_symmetric : Adds acyclic_b (e 12) (One SYMMETRIC) (Err TraitClash) acyclic_b
-row2_symmetric = (
-  One SYMMETRIC ∷ [],
-  alone acyclic_b (One SYMMETRIC) refl (lone_single acyclic_b SYMMETRIC (λ x. refl)),
-  Some TraitClash,
-  (None, calm_single acyclic_b (e 12) SYMMETRIC, refl),
-  (refl, refl),
-)
+row2_symmetric =
+    single_added acyclic_b (e 12) unchanged (Some TraitClash) (Err TraitClash) acyclic_b SYMMETRIC
+    (λ x. refl) (None, calm_single acyclic_b (e 12) SYMMETRIC, refl) (refl, refl)
 
 row2_reserved : Adds acyclic_b (e 11) (Two (e 10) DELETE) (Err Reserved) acyclic_b
 row2_reserved = (refl, refl)
@@ -201,13 +173,9 @@ abbrev three : WorldState
 three = four S (with 12 ∷ with 13 ∷ []) (with 11 ∷ []) (with 11 ∷ [])
 
 row4_add : Adds ab (e 13) (with 11) (Ok tt) three
-row4_add = (
-  with 11 ∷ [],
-  alone ab (with 11) refl (lone_pair ab (e 10) (e 11) (λ x. refl)),
-  None,
-  (None, calm_pair ab (e 13) (e 10) (e 11) refl, refl),
-  (refl, refl),
-)
+row4_add =
+    pair_added ab (e 13) unchanged None (Ok tt) three (e 10) (e 11)
+    (λ x. refl) (None, calm_pair ab (e 13) (e 10) (e 11) refl, refl) (refl, refl)
 
 row4_clear : Clears three (e 11) (Ok tt) begun
 row4_clear = (refl, refl)
@@ -225,13 +193,9 @@ abbrev F : List Id
 F = One SYMMETRIC ∷ Two ON_DELETE_TARGET DELETE ∷ []
 
 row5_policy : Adds begun (e 10) (Two ON_DELETE_TARGET DELETE) (Ok tt) (four F [] [] [])
-row5_policy = (
-  Two ON_DELETE_TARGET DELETE ∷ [],
-  alone begun (Two ON_DELETE_TARGET DELETE) refl (lone_pair begun ON_DELETE_TARGET DELETE (λ x. refl)),
-  None,
-  (None, calm_pair begun (e 10) ON_DELETE_TARGET DELETE refl, refl),
-  (refl, refl),
-)
+row5_policy =
+    pair_added begun (e 10) unchanged None (Ok tt) (four F [] [] []) ON_DELETE_TARGET DELETE
+    (λ x. refl) (None, calm_pair begun (e 10) ON_DELETE_TARGET DELETE refl, refl) (refl, refl)
 
 abbrev chain : WorldState
 chain = four F (with 12 ∷ []) (with 11 ∷ with 13 ∷ []) (with 12 ∷ [])
@@ -240,13 +204,9 @@ abbrev before : WorldState
 before = four F (with 12 ∷ []) (with 11 ∷ []) []
 
 row5_add : Adds (four F (with 12 ∷ []) (with 11 ∷ []) []) (e 12) (with 13) (Ok tt) chain
-row5_add = (
-  with 13 ∷ [],
-  alone before (with 13) refl (lone_pair before (e 10) (e 13) (λ x. refl)),
-  None,
-  (None, calm_pair before (e 12) (e 10) (e 13) refl, refl),
-  (refl, refl),
-)
+row5_add =
+    pair_added before (e 12) unchanged None (Ok tt) chain (e 10) (e 13)
+    (λ x. refl) (None, calm_pair before (e 12) (e 10) (e 13) refl, refl) (refl, refl)
 
 holds_b : HoldsOn chain DELETE (e 11) (e 12)
 holds_b = (with 11, refl, inr (refl, refl))
@@ -270,13 +230,10 @@ numbered ofA ofB = second (Living 0 (record { name = None; arity = Some 2; held 
 
 set_mirrored : Sets (numbered [] []) (e 11) (with 12) (value (7 ∷ 0 ∷ 0 ∷ 0 ∷ 0 ∷ 0 ∷ 0 ∷ 0 ∷ [])) (Ok tt)
     (numbered ((with 12, value (7 ∷ 0 ∷ 0 ∷ 0 ∷ 0 ∷ 0 ∷ 0 ∷ 0 ∷ [])) ∷ []) ((with 11, zeros) ∷ []))
-set_mirrored = (
-  with 12 ∷ [],
-  alone (numbered [] []) (with 12) refl (lone_pair (numbered [] []) (e 10) (e 12) (λ x. refl)),
-  None,
-  (None, calm_pair (numbered [] []) (e 11) (e 10) (e 12) refl, refl),
-  (refl, refl),
-)
+set_mirrored =
+    pair_added (numbered [] []) (e 11) (with_value (with 12) (value (7 ∷ 0 ∷ 0 ∷ 0 ∷ 0 ∷ 0 ∷ 0 ∷ 0 ∷ []))) None (Ok tt)
+    (numbered ((with 12, value (7 ∷ 0 ∷ 0 ∷ 0 ∷ 0 ∷ 0 ∷ 0 ∷ 0 ∷ [])) ∷ []) ((with 11, zeros) ∷ [])) (e 10) (e 12)
+    (λ x. refl) (None, calm_pair (numbered [] []) (e 11) (e 10) (e 12) refl, refl) (refl, refl)
 
 -- ---- eight fields
 abbrev eight : Value
@@ -298,13 +255,9 @@ abbrev unset : WorldState
 unset = second (M 8 ∷ one [] ∷ [])
 
 fields_set : Sets (second (M 8 ∷ one [] ∷ [])) (e 11) (One (e 10)) eight (Ok tt) (second (M 8 ∷ one ((One (e 10), eight) ∷ []) ∷ []))
-fields_set = (
-  One (e 10) ∷ [],
-  alone unset (One (e 10)) refl (lone_single unset (e 10) (λ x. refl)),
-  None,
-  (None, calm_single unset (e 11) (e 10), refl),
-  (refl, refl),
-)
+fields_set =
+    single_added unset (e 11) (with_value (One (e 10)) eight) None (Ok tt) (second (M 8 ∷ one ((One (e 10), eight) ∷ []) ∷ [])) (e 10)
+    (λ x. refl) (None, calm_single unset (e 11) (e 10), refl) (refl, refl)
 
 fields_wide : Sets (second (M 5 ∷ one [] ∷ [])) (e 11) (One (e 10)) eight (Err TooWide) (second (M 5 ∷ one [] ∷ []))
 fields_wide = (refl, refl)

@@ -1,8 +1,10 @@
 -- Mirrors and clashes, relationship by relationship, and what keeps them.
-use Rattle.eco_ids.proofs.Common.{◌≡◌, ℕ, zero, suc, ◌+◌, Bool, true, false, cond, ◌||◌, List, [], ◌∷◌, is_some, IsTrue, IsFalse, slice_get}
-use Rattle.eco_ids.proofs.Common.{Some, None, Option, option_map, unwrap_or, sym, refl, ap, ◌∙◌, subst, inl, inr, true≢false, arith, find, list_any, none-some}
-use Rattle.eco_ids.proofs.Common.{same_Some, Edition, First, Second, Entity, ACYCLIC, WITH, EXCLUSIVE, SYMMETRIC, Id, Two, One, Value, Living, IndexState}
-use Rattle.eco_ids.proofs.Common.{Free, Retired, living_from, IsLawful, IsOrderly, KeepsEdition, IsMirrored, id_cmp, id_eq, WorldState}
+use Rattle.eco_ids.proofs.Facts.{off}
+use Rattle.eco_ids.proofs.Passing.{found_living, living_found}
+use Rattle.eco_ids.proofs.Common.{◌≡◌, Bool, true, false, cond, ◌||◌, List, [], ◌∷◌, is_some, IsTrue, IsFalse}
+use Rattle.eco_ids.proofs.Common.{Some, None, Option, option_map, unwrap_or, sym, refl, ap, ◌∙◌, subst, inl, inr, true≢false, find, list_any, none-some}
+use Rattle.eco_ids.proofs.Common.{same_Some, Edition, First, Second, Entity, ACYCLIC, WITH, EXCLUSIVE, SYMMETRIC, Id, Two, One, Value}
+use Rattle.eco_ids.proofs.Common.{IsLawful, IsOrderly, KeepsEdition, IsMirrored, id_cmp, id_eq, WorldState}
 use Rattle.eco_ids.proofs.Common.{Record, has, record_of, entities, living, held_by, is_exclusive, is_acyclic, is_symmetric, has_symmetric, mirror_of}
 use Rattle.eco_ids.proofs.Common.{mirrored_pair}
 use Rattle.eco_ids.proofs.Common.{is_with, is_clashing, has_clash}
@@ -10,58 +12,15 @@ use Rattle.eco_ids.proofs.Ascending.{both, first, second}
 use Rattle.eco_ids.proofs.Facts.{any_is, id_eq_is, id_eq_itself, not_both, or_left, or_parts, or_right}
 use Rattle.eco_ids.proofs.Keeps.{entry_of}
 use Rattle.eco_ids.proofs.Overlaps.{entity_eq_is}
-use Rattle.eco_ids.proofs.Records.{living_state}
-use Rattle.eco_ids.proofs.States.{record_at}
 
--- ---- the living who pass a test, by their handles
+-- ---- the living who pass a test
 
-abbrev handle : ℕ → ℕ → Entity
-handle n g = record { index = n; generation = g }
+module _ (t : Entity × Record → Bool) (w : WorldState) where
+  pub living_some : IsTrue (list_any t (living w)) → (e : Entity) × (r : Record) × (record_of w e ≡ Some r) × IsTrue (t (e, r))
+  living_some = living_found t (entities w)
 
-module _ (t : Entity × Record → Bool) where
-  abbrev Found : ℕ → List (IndexState Record) → Type 0
-  Found n xs = (k : ℕ) × (g : ℕ) × (r : Record) × (slice_get xs k ≡ Some (Living g r)) × IsTrue (t (handle (n + k) g, r))
-
-  further : (n : ℕ) (x : IndexState Record) (xs : List (IndexState Record)) → Found (n + 1) xs → Found n (x ∷ xs)
-  further n x xs p =
-      let e : (n + 1) + p.0 ≡ n + suc p.0 = omega arith in
-      (suc p.0, p.1, p.2, p.3, subst (λ m. IsTrue (t (handle m p.1, p.2))) e p.4)
-
-  found_from : (n : ℕ) (xs : List (IndexState Record)) → IsTrue (list_any t (living_from n xs)) → Found n xs
-  found_from n [] h = absurd (true≢false (sym h))
-  found_from n (Retired ∷ xs) h = further n Retired xs (found_from (n + 1) xs h)
-  found_from n (Free g ∷ xs) h = further n (Free g) xs (found_from (n + 1) xs h)
-  found_from n (Living g r ∷ xs) h =
-      elim (or_parts (t (handle n g, r)) (list_any t (living_from (n + 1) xs)) h) as (λ _. Found n (Living g r ∷ xs)) [
-        | inl is ↦ (0, g, r, refl, let e : n ≡ n + 0 = omega arith in subst (λ m. IsTrue (t (handle m g, r))) e is)
-        | inr more ↦ further n (Living g r) xs (found_from (n + 1) xs more)
-      ]
-
-  passing_from : (n : ℕ) (xs : List (IndexState Record)) (k g : ℕ) (r : Record) → slice_get xs k ≡ Some (Living g r) → IsTrue (t (handle (n + k) g, r)) →
-      IsTrue (list_any t (living_from n xs))
-  passing_from n [] k g r at h = absurd (none-some (Living g r) at)
-  passing_from n (x ∷ xs) zero g r at h =
-      let e : n + 0 ≡ n = omega arith in
-      subst (λ y. IsTrue (list_any t (living_from n (y ∷ xs)))) (sym (same_Some x (Living g r) at))
-      (or_left (t (handle n g, r)) (list_any t (living_from (n + 1) xs)) (subst (λ m. IsTrue (t (handle m g, r))) e h))
-  passing_from n (x ∷ xs) (suc k) g r at h = past x (passing_from (n + 1) xs k g r at (let e : n + suc k ≡ (n + 1) + k = omega arith in
-      subst (λ m. IsTrue (t (handle m g, r))) e h))
-    where
-      past : (y : IndexState Record) → IsTrue (list_any t (living_from (n + 1) xs)) → IsTrue (list_any t (living_from n (y ∷ xs)))
-      past Retired p = p
-      past (Free f) p = p
-      past (Living f d) p = or_right (t (handle n f, d)) _ p
-
-  pub living_some : (w : WorldState) → IsTrue (list_any t (living w)) → (e : Entity) × (r : Record) × (record_of w e ≡ Some r) × IsTrue (t (e, r))
-  living_some w h =
-      let p = found_from 0 w.indices h in
-      let e : 0 + p.0 ≡ p.0 = omega arith in
-      (handle p.0 p.1, p.2, record_at (entities w) (handle p.0 p.1) p.2 p.3, subst (λ m. IsTrue (t (handle m p.1, p.2))) e p.4)
-
-  pub some_living : (w : WorldState) (e : Entity) (r : Record) → record_of w e ≡ Some r → IsTrue (t (e, r)) → IsTrue (list_any t (living w))
-  some_living w e r at h =
-      let i : e.index ≡ 0 + e.index = omega arith in
-      passing_from 0 w.indices e.index e.generation r (living_state w e r at) (subst (λ m. IsTrue (t (handle m e.generation, r))) i h)
+  pub some_living : (e : Entity) (r : Record) → record_of w e ≡ Some r → IsTrue (t (e, r)) → IsTrue (list_any t (living w))
+  some_living = found_living t (entities w)
 
 -- ---- clashes
 
@@ -112,21 +71,23 @@ module _ (w : WorldState) where
       both (has_symmetric w.edition) _ (first (has_symmetric w.edition) _ symmetric)
       (some_living (λ p. is_clashing w p.0) w r d.0 d.2 (both (is_symmetric w r) _ symmetric rest))
 
+  pub held_with : (x y : Entity) → IsTrue (has w x (Two WITH y)) → IsTrue (list_any (λ h. is_with h.0) (held_by w x))
+  held_with x y h =
+      let q = entry_of (record_of w x) (Two WITH y) h in
+      ap (λ (o : Option Record). list_any (λ h. is_with h.0) (unwrap_or (option_map (λ r. r.held) o) [])) q.2
+      ∙ entry_any is_with (Two WITH y) q.1 q.0.held refl q.3
+
+  pub living_with : (x y : Entity) → IsTrue (has w x (Two WITH y)) → IsTrue (list_any (λ p. has w p.0 (Two WITH y)) (living w))
+  living_with x y h = let q = entry_of (record_of w x) (Two WITH y) h in some_living (λ p. has w p.0 (Two WITH y)) w x q.0 q.2 h
+
   pub calm_from : IsFalse (has_clash w) → IsCalm w
   calm_from none = record {
     exclusive = λ r s h. not_both (clash_at r s (or_left (is_exclusive w r) _ h)) none;
     acyclic = λ r s h. not_both (clash_at r s (or_right (is_exclusive w r) _ (or_left (is_acyclic w r) _ h))) none;
     holder = λ r x s h.
-        let d = entry_of (record_of w r) (Two WITH x) h in
-        let there : IsTrue (list_any (λ h. is_with h.0) (held_by w r)) =
-        ap (λ (o : Option Record). list_any (λ h. is_with h.0) (unwrap_or (option_map (λ r. r.held) o) [])) d.2
-        ∙ entry_any is_with (Two WITH x) d.1 d.0.held refl d.3 in
-        not_both (clash_at r s (or_right (is_exclusive w r) _ (or_right (is_acyclic w r) _ (or_left _ _ there)))) none;
-    target = λ r x s h.
-        let d = entry_of (record_of w x) (Two WITH r) h in
-        let there : IsTrue (list_any (λ p. has w p.0 (Two WITH r)) (living w)) = some_living (λ p. has w p.0 (Two WITH r)) w x d.0 d.2 h in
-        not_both (clash_at r s (or_right (is_exclusive w r) _ (or_right (is_acyclic w r) _
-        (or_right (list_any (λ h. is_with h.0) (held_by w r)) _ there)))) none;
+        not_both (clash_at r s (or_right (is_exclusive w r) _ (or_right (is_acyclic w r) _ (or_left _ _ (held_with r x h))))) none;
+    target = λ r x s h. not_both (clash_at r s (or_right (is_exclusive w r) _ (or_right (is_acyclic w r) _
+        (or_right (list_any (λ h. is_with h.0) (held_by w r)) _ (living_with x r h))))) none;
   }
 
   clashes : IsCalm w → IsTrue (has_clash w) → ⊥
@@ -145,11 +106,7 @@ module _ (w : WorldState) where
       ]
 
   pub calm_to : IsCalm w → IsFalse (has_clash w)
-  calm_to c = by (has_clash w) refl
-    where
-      by : (b : Bool) → has_clash w ≡ b → b ≡ false
-      by true h = absurd (clashes c h)
-      by false h = refl
+  calm_to c = off (has_clash w) (clashes c)
 
 -- ---- what an edition asks is kept
 

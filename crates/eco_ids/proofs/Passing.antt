@@ -1,6 +1,7 @@
 -- The living entities that pass a test, in a list of what is known of each index.
+use Rattle.eco_ids.proofs.Common.{none-some, same_Some, subst}
 use Rattle.eco_ids.proofs.Common.{◌≡◌, ℕ, zero, suc, ◌+◌, ◌<◌, Bool, true, false, cond, ◌⊎◌, List, [], ◌∷◌, map, IsTrue, slice_get, Some, filter, is_lt, Less}
-use Rattle.eco_ids.proofs.Common.{sym, refl, ap, ◌∙◌, inl, inr, true≢false, arith, list_any, list_all, ordering_then, nat_cmp, nat_tests, common_steps, Entity}
+use Rattle.eco_ids.proofs.Common.{sym, refl, ap, inl, inr, true≢false, arith, list_any, list_all, ordering_then, nat_cmp, nat_tests, common_steps, Entity}
 use Rattle.eco_ids.proofs.Common.{Living, IndexState, Indexed, Free, Retired, living_from, has_item, entity_cmp, entity_eq, is_ascending}
 use Rattle.eco_ids.specs.Indices.{record_of, living}
 use Rattle.eco_ids.proofs.Ascending.{both}
@@ -8,36 +9,55 @@ use Rattle.eco_ids.proofs.Facts.{or_parts, or_right, or_left}
 use Rattle.eco_ids.proofs.Overlaps.{entity_eq_is, entity_eq_itself}
 use Rattle.eco_ids.proofs.States.{living_at, record_at}
 
-module _ {A : Type 0} (test : A → Bool) where
-  -- the index and what is kept of one that passes
-  abbrev pub Passes : List (IndexState A) → Type 0
-  Passes xs = (k : ℕ) × (g : ℕ) × (a : A) × (slice_get xs k ≡ Some (Living g a)) × (test a ≡ true)
+abbrev pub handle : ℕ → ℕ → Entity
+handle n g = record { index = n; generation = g }
 
-  later : (x : IndexState A) (xs : List (IndexState A)) → Passes xs → Passes (x ∷ xs)
-  later x xs p = (suc p.0, p.1, p.2, p.3, p.4)
+-- a test of the living, by their handles and what is kept of them
+module _ {A : Type 0} (t : Entity × A → Bool) where
+  abbrev Found : ℕ → List (IndexState A) → Type 0
+  Found n xs = (k : ℕ) × (g : ℕ) × (a : A) × (slice_get xs k ≡ Some (Living g a)) × IsTrue (t (handle (n + k) g, a))
 
-  -- where some living one passes, it is at an index
-  pub passes : (n : ℕ) (xs : List (IndexState A)) → list_any (λ (p : Entity × A). test p.1) (living_from n xs) ≡ true → Passes xs
-  passes n [] h = absurd (true≢false (sym h))
-  passes n (Retired ∷ xs) h = later Retired xs (passes (n + 1) xs h)
-  passes n (Free g ∷ xs) h = later (Free g) xs (passes (n + 1) xs h)
-  passes n (Living g a ∷ xs) h =
-      elim (or_parts (test a) (list_any (λ (p : Entity × A). test p.1) (living_from (n + 1) xs)) h) as (λ _. Passes (Living g a ∷ xs)) [
-        | inl is ↦ (0, g, a, refl, is)
-        | inr more ↦ later (Living g a) xs (passes (n + 1) xs more)
+  further : (n : ℕ) (x : IndexState A) (xs : List (IndexState A)) → Found (n + 1) xs → Found n (x ∷ xs)
+  further n x xs p =
+      let e : (n + 1) + p.0 ≡ n + suc p.0 = omega arith in
+      (suc p.0, p.1, p.2, p.3, subst (λ m. IsTrue (t (handle m p.1, p.2))) e p.4)
+
+  found_from : (n : ℕ) (xs : List (IndexState A)) → IsTrue (list_any t (living_from n xs)) → Found n xs
+  found_from n [] h = absurd (true≢false (sym h))
+  found_from n (Living g a ∷ xs) h =
+      elim (or_parts (t (handle n g, a)) (list_any t (living_from (n + 1) xs)) h) as (λ _. Found n (Living g a ∷ xs)) [
+        | inl is ↦ (0, g, a, refl, let e : n ≡ n + 0 = omega arith in subst (λ m. IsTrue (t (handle m g, a))) e is)
+        | inr more ↦ further n (Living g a) xs (found_from (n + 1) xs more)
       ]
+  found_from n (x ∷ xs) h = further n x xs (found_from (n + 1) xs h)
 
-  -- where one at an index passes, some living one does
-  pub passing : (n : ℕ) (xs : List (IndexState A)) (k g : ℕ) (a : A) → slice_get xs k ≡ Some (Living g a) → test a ≡ true →
-      list_any (λ (p : Entity × A). test p.1) (living_from n xs) ≡ true
-  passing n [] k g a at h = absurd (cc)
-  passing n (Retired ∷ xs) zero g a at h = absurd (cc)
-  passing n (Retired ∷ xs) (suc k) g a at h = passing (n + 1) xs k g a at h
-  passing n (Free f ∷ xs) zero g a at h = absurd (cc)
-  passing n (Free f ∷ xs) (suc k) g a at h = passing (n + 1) xs k g a at h
-  passing n (Living f b ∷ xs) zero g a at h = let same : b ≡ a = cc in or_left (test b) _ (ap test same ∙ h)
-  passing n (Living f b ∷ xs) (suc k) g a at h = or_right (test b) _ (passing (n + 1) xs k g a at h)
+  passing_from : (n : ℕ) (xs : List (IndexState A)) (k g : ℕ) (a : A) → slice_get xs k ≡ Some (Living g a) → IsTrue (t (handle (n + k) g, a)) →
+      IsTrue (list_any t (living_from n xs))
+  passing_from n [] k g a at h = absurd (none-some (Living g a) at)
+  passing_from n (x ∷ xs) zero g a at h =
+      let e : n + 0 ≡ n = omega arith in
+      subst (λ y. IsTrue (list_any t (living_from n (y ∷ xs)))) (sym (same_Some x (Living g a) at))
+      (or_left (t (handle n g, a)) (list_any t (living_from (n + 1) xs)) (subst (λ m. IsTrue (t (handle m g, a))) e h))
+  passing_from n (x ∷ xs) (suc k) g a at h = past x (passing_from (n + 1) xs k g a at (let e : n + suc k ≡ (n + 1) + k = omega arith in
+      subst (λ m. IsTrue (t (handle m g, a))) e h))
+    where
+      past : (y : IndexState A) → IsTrue (list_any t (living_from (n + 1) xs)) → IsTrue (list_any t (living_from n (y ∷ xs)))
+      past (Living f d) p = or_right (t (handle n f, d)) _ p
+      past y p = p
 
+  pub living_found : (w : Indexed A) → IsTrue (list_any t (living w)) → (e : Entity) × (a : A) × (record_of w e ≡ Some a) × IsTrue (t (e, a))
+  living_found w h =
+      let p = found_from 0 w.indices h in
+      let e : 0 + p.0 ≡ p.0 = omega arith in
+      (handle p.0 p.1, p.2, record_at w (handle p.0 p.1) p.2 p.3, subst (λ m. IsTrue (t (handle m p.1, p.2))) e p.4)
+
+  pub found_living : (w : Indexed A) (e : Entity) (a : A) → record_of w e ≡ Some a → IsTrue (t (e, a)) → IsTrue (list_any t (living w))
+  found_living w e a at h =
+      let i : e.index ≡ 0 + e.index = omega arith in
+      passing_from 0 w.indices e.index e.generation a (living_at w e a at) (subst (λ m. IsTrue (t (handle m e.generation, a))) i h)
+
+-- a test of what is kept alone
+module _ {A : Type 0} (test : A → Bool) where
   -- those who pass, ascending
   abbrev pub passed_from : ℕ → List (IndexState A) → List Entity
   passed_from n xs = map (λ (p : Entity × A). p.0) (filter (λ (p : Entity × A). test p.1) (living_from n xs))
@@ -61,8 +81,6 @@ module _ {A : Type 0} (test : A → Bool) where
 
   pub among_passed : (n : ℕ) (xs : List (IndexState A)) (e : Entity) → IsTrue (has_item entity_cmp (passed_from n xs) e) → PassesAt xs n e
   among_passed n [] e h = absurd (true≢false (sym h))
-  among_passed n (Retired ∷ xs) e h = one_more Retired xs n e (among_passed (n + 1) xs e h)
-  among_passed n (Free g ∷ xs) e h = one_more (Free g) xs n e (among_passed (n + 1) xs e h)
   among_passed n (Living g a ∷ xs) e h =
       elim (here_or_later n g a xs e (test a) refl h) as (λ _. PassesAt (Living g a ∷ xs) n e) [
         | inl p ↦ (
@@ -74,6 +92,7 @@ module _ {A : Type 0} (test : A → Bool) where
         )
         | inr more ↦ one_more (Living g a) xs n e (among_passed (n + 1) xs e more)
       ]
+  among_passed n (x ∷ xs) e h = one_more x xs n e (among_passed (n + 1) xs e h)
 
   pub passed_among : (n : ℕ) (xs : List (IndexState A)) (k g : ℕ) (a : A) → slice_get xs k ≡ Some (Living g a) → test a ≡ true
       → (e : Entity) → e.index ≡ n + k → e.generation ≡ g → IsTrue (has_item entity_cmp (passed_from n xs) e)
@@ -100,8 +119,6 @@ module _ {A : Type 0} (test : A → Bool) where
   above_all : (n m g : ℕ) (xs : List (IndexState A)) → n < m →
       IsTrue (list_all (λ y. is_lt (entity_cmp (record { index = n; generation = g }) y)) (passed_from m xs))
   above_all n m g [] below = refl
-  above_all n m g (Retired ∷ xs) below = above_all n (m + 1) g xs (omega arith)
-  above_all n m g (Free f ∷ xs) below = above_all n (m + 1) g xs (omega arith)
   above_all n m g (Living f a ∷ xs) below = by (above_all n (m + 1) g xs (omega arith)) (test a)
     where
       by : IsTrue (list_all (λ y. is_lt (entity_cmp (record { index = n; generation = g }) y)) (passed_from (m + 1) xs)) → (c : Bool) →
@@ -111,11 +128,10 @@ module _ {A : Type 0} (test : A → Bool) where
           (filter (λ (p : Entity × A). test p.1) (living_from (m + 1) xs)))))
       by rest true = both _ _ (index_below n m g f below) rest
       by rest false = rest
+  above_all n m g (x ∷ xs) below = above_all n (m + 1) g xs (omega arith)
 
   pub passed_ascend : (n : ℕ) (xs : List (IndexState A)) → IsTrue (is_ascending entity_cmp (passed_from n xs))
   passed_ascend n [] = refl
-  passed_ascend n (Retired ∷ xs) = passed_ascend (n + 1) xs
-  passed_ascend n (Free f ∷ xs) = passed_ascend (n + 1) xs
   passed_ascend n (Living f a ∷ xs) = by (passed_ascend (n + 1) xs) (test a)
     where
       by : IsTrue (is_ascending entity_cmp (passed_from (n + 1) xs)) → (c : Bool) →
@@ -125,6 +141,7 @@ module _ {A : Type 0} (test : A → Bool) where
           (filter (λ (p : Entity × A). test p.1) (living_from (n + 1) xs)))))
       by rest true = both _ _ (above_all n (n + 1) f xs (omega arith)) rest
       by rest false = rest
+  passed_ascend n (x ∷ xs) = passed_ascend (n + 1) xs
 
   -- ---- by handle
 
@@ -133,13 +150,10 @@ module _ {A : Type 0} (test : A → Bool) where
   PassesOwn w e = (a : A) × (record_of w e ≡ Some a) × (test a ≡ true)
 
   pub some_passes : (w : Indexed A) → list_any (λ (p : Entity × A). test p.1) (living w) ≡ true → (e : Entity) × PassesOwn w e
-  some_passes w h =
-      let p = passes 0 w.indices h in
-      let e : Entity = record { index = p.0; generation = p.1 } in
-      (e, (p.2, record_at w e p.2 p.3, p.4))
+  some_passes w h = let p = living_found (λ (p : Entity × A). test p.1) w h in (p.0, (p.1, p.2, p.3))
 
   pub passes_some : (w : Indexed A) (e : Entity) → PassesOwn w e → list_any (λ (p : Entity × A). test p.1) (living w) ≡ true
-  passes_some w e p = passing 0 w.indices e.index e.generation p.0 (living_at w e p.0 p.1) p.2
+  passes_some w e p = found_living (λ (p : Entity × A). test p.1) w e p.0 p.1 p.2
 
   pub own_from_passed : (w : Indexed A) (e : Entity) → IsTrue (has_item entity_cmp (passed_from 0 w.indices) e) → PassesOwn w e
   own_from_passed w e h =

@@ -6,13 +6,12 @@ use Rattle.std.specs.Ordering.{is_lt}
 use Rattle.eco_ids.specs.declared.id.Id.{Id}
 use Rattle.std.specs.FinMap.Entries.{by_order}
 use Rattle.eco_ids.specs.Order.{id_cmp, is_ascending, with_item}
+use Rattle.eco_ids.proofs.Common.{list_all-append, sym, ◌∙◌}
 use Rattle.eco_ids.proofs.Ascending.{both, first, less, second}
 
 -- what is below all of two lists is below all of the first, and of what comes behind one of the second
 below_front : (t : Id → Bool) (xs ys : List Id) → IsTrue (list_all t (xs ++ ys)) → IsTrue (list_all t xs)
-below_front t [] ys h = refl
-below_front t (x ∷ xs) ys h =
-    both (t x) (list_all t xs) (first (t x) (list_all t (xs ++ ys)) h) (below_front t xs ys (second (t x) (list_all t (xs ++ ys)) h))
+below_front t xs ys h = first (list_all t xs) _ (sym (list_all-append t xs ys) ∙ h)
 
 below_rest : (t : Id → Bool) (xs : List Id) (y : Id) (ys : List Id) → IsTrue (list_all t (xs ++ y ∷ ys)) → IsTrue (list_all t (xs ++ ys))
 below_rest t [] y ys h = second (t y) (list_all t ys) h

@@ -1,8 +1,9 @@
 -- Worked rows: what With brings, and a walk that would close a cycle.
-use Rattle.eco_ids.proofs.Common.{◌≡◌, false, [], ◌∷◌, IsTrue, Some, None, Err, sym, refl, subst, inl, inr, true≢false, is_le, Entity, WITH, CHILD_OF, Id, Two}
-use Rattle.eco_ids.proofs.Common.{One, Cycle, root, next, id_cmp, has_item, id_eq, entity_cmp, Adds, IsClosure, with_closure, ClosesCycle, InClosure, Reaches}
+use Rattle.eco_ids.proofs.Facts.{only}
+use Rattle.eco_ids.proofs.MirrorRows.{alone, lone_pair}
+use Rattle.eco_ids.proofs.Common.{◌≡◌, [], ◌∷◌, IsTrue, Some, None, Err, sym, refl, subst, true≢false, is_le, Entity, WITH, CHILD_OF, Id, Two}
+use Rattle.eco_ids.proofs.Common.{One, Cycle, root, next, entity_cmp, Adds, IsClosure, with_closure, ClosesCycle, InClosure, Reaches}
 use Rattle.eco_ids.proofs.Common.{Brings, WorldState, zeros}
-use Rattle.eco_ids.proofs.Facts.{id_eq_is, or_parts}
 use Rattle.eco_ids.proofs.Worlds.{e, having, world}
 use Rattle.eco_ids.proofs.Gains.{same_relationship}
 
@@ -51,23 +52,9 @@ wanted = Two CHILD_OF (e 9)
 up : Reaches family CHILD_OF (e 9) (e 11)
 up = next {a = e 10} (next (root refl) refl) refl
 
-only : (i j : Id) → IsTrue (has_item id_cmp (i ∷ []) j) → i ≡ j
-only i j h = elim (or_parts (id_eq i j) false h) as (λ _. i ≡ j) [ inl k ↦ id_eq_is i j k | inr k ↦ absurd (true≢false (sym k)) ]
-
 -- ChildOf goes with nothing
 closure : IsClosure family wanted (wanted ∷ [])
-closure = record { ascending = refl; exact = λ j. (inside j, outside j) }
-  where
-    inside : (j : Id) → IsTrue (has_item id_cmp (wanted ∷ []) j) → InClosure family wanted j
-    inside j h = root (sym (only wanted j h))
-
-    step : (j k : Id) → j ≡ wanted → Brings family j k → IsTrue (has_item id_cmp (wanted ∷ []) k)
-    step j (One x) at b = absurd (subst (λ i. Brings family i (One x)) at b)
-    step j (Two x t) at b = absurd (true≢false (sym (subst (λ i. Brings family i (Two x t)) at b).0))
-
-    outside : (j : Id) → InClosure family wanted j → IsTrue (has_item id_cmp (wanted ∷ []) j)
-    outside j (root at) = subst (λ i. IsTrue (has_item id_cmp (wanted ∷ []) i)) (sym at) refl
-    outside j (next {a = a} before b) = step a j (sym (only wanted a (outside a before))) b
+closure = alone family wanted refl (lone_pair family CHILD_OF (e 9) (λ x. refl))
 
 closes : ClosesCycle family (e 11) (wanted ∷ []) CHILD_OF
 closes = (refl, e 9, refl, up)

@@ -1,8 +1,9 @@
 -- A lawful world has batches: its closed writes can be listed, so that what conflicts is decided.
-use Rattle.std.proofs.Common.{◌≡◌, Bool, ◌||◌, ◌↔◌, ◌⊎◌, inl, inr, List, [], ◌∷◌, ◌++◌, map, refl, sym, subst, true≢false, IsTrue, Option, Some, None}
+use Rattle.std.proofs.Common.{◌≡◌, Bool, ◌||◌, ◌↔◌, inl, inr, List, [], ◌∷◌, ◌++◌, map, refl, sym, subst, true≢false, IsTrue, Option, Some, None}
 use Rattle.std.specs.List.{list_any}
 use Rattle.std.proofs.lemmas.Bool.Decides.{Decides-or}
 use Rattle.std.proofs.lemmas.List.{map-id}
+use Rattle.std.proofs.lemmas.List.{append-nil, append_assoc}
 use Rattle.eco_ids.specs.declared.entity.Entity.{Entity}
 use Rattle.eco_ids.specs.declared.entity.TheConstants.{WITH}
 use Rattle.eco_ids.specs.declared.id.Id.TheVariants as id
@@ -19,11 +20,11 @@ use Rattle.eco_ids.proofs.IdOrder.{entity_cmp_total, same_entity}
 use Rattle.eco_ids.proofs.Listable.{In, decide_bool, listed, sorted}
 use Rattle.eco_ids.proofs.LivingLists.{living_in, the_living}
 use Rattle.eco_systems.specs.Batches.{AreBatches, Conflict}
-use Rattle.eco_systems.specs.Closing.{Among, ClosedPasses, ListsClosed, pattern_head, pattern_with_head}
+use Rattle.eco_systems.specs.Closing.{Among, ListsClosed, pattern_head, pattern_with_head}
 use Rattle.eco_systems.specs.Joining.{batched}
 use Rattle.eco_systems.specs.Systems.{SystemModel, system_reads}
 use Rattle.eco_systems.specs.Writes.{IsTraitWriter, SomeOf, widened, writes_trait}
-use Rattle.eco_systems.proofs.ClosedLists.{among_reached, among_wild, lists_none, passes_left, passes_parts, passes_right}
+use Rattle.eco_systems.proofs.ClosedLists.{among_reached, among_wild, lists_more, lists_none}
 use Rattle.eco_systems.proofs.JoinedOneByOne.{batched_are_batches}
 
 module _ (w : WorldState) (l : IsLawful w) where
@@ -49,25 +50,16 @@ module _ (w : WorldState) (l : IsLawful w) where
           let xs = heads h in
           (old ++ map (λ x. widened w (pattern_with_head p x)) xs.0, among_reached w p h xs.0 old at xs.1)
 
-  closed_list : (writes : List Pattern) → (closed : List Pattern) × ListsClosed w writes closed
-  closed_list [] = ([], lists_none w)
-  closed_list (p ∷ writes) =
-      let rest = closed_list writes in
-      let more = closed_more p rest.0 in (
-        more.0,
-        λ test.
-            (λ t. there rest.0 rest.1 test ((more.1 test).0 t), λ c. (more.1 test).1 (here rest.0 rest.1 test (passes_parts w (p ∷ []) writes test c))),
-      )
-    where
-      there : (old : List Pattern) → ListsClosed w writes old → (test : Pattern → Bool) → IsTrue (list_any test old) ⊎ ClosedPasses w (p ∷ []) test →
-          ClosedPasses w (p ∷ writes) test
-      there old is test (inl o) = passes_right w (p ∷ []) writes test ((is test).0 o)
-      there old is test (inr c) = passes_left w (p ∷ []) writes test c
+  closed_from : (done : List Pattern) (old : List Pattern) → ListsClosed w done old → (rest : List Pattern) →
+      (closed : List Pattern) × ListsClosed w (done ++ rest) closed
+  closed_from done old is [] = (old, subst (λ ps. ListsClosed w ps old) (sym (append-nil done)) is)
+  closed_from done old is (p ∷ rest) =
+      let more = closed_more p old in
+      let last = closed_from (done ++ p ∷ []) more.0 (lists_more w done p old more.0 is more.1) rest in
+      (last.0, subst (λ ps. ListsClosed w ps last.0) (append_assoc done (p ∷ []) rest) last.1)
 
-      here : (old : List Pattern) → ListsClosed w writes old → (test : Pattern → Bool) → ClosedPasses w (p ∷ []) test ⊎ ClosedPasses w writes test →
-          IsTrue (list_any test old) ⊎ ClosedPasses w (p ∷ []) test
-      here old is test (inl c) = inr c
-      here old is test (inr c) = inl ((is test).1 c)
+  closed_list : (writes : List Pattern) → (closed : List Pattern) × ListsClosed w writes closed
+  closed_list = closed_from [] [] (lists_none w)
 
   -- ---- what conflicts, as a test
 

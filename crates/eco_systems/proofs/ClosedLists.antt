@@ -17,6 +17,7 @@ use Rattle.eco_ids.specs.World.{WorldState, has}
 use Rattle.eco_ids.proofs.Facts.{or_left, or_parts, or_right}
 use Rattle.eco_ids.proofs.Overlaps.{entity_eq_is, entity_eq_itself}
 use Rattle.eco_systems.specs.Closing.{pattern_head, pattern_with_head, ClosedPasses, ListsClosed, Among}
+use Rattle.eco_systems.proofs.Lists.{some_left, some_right}
 use Rattle.eco_systems.specs.Writes.{SomeOf, BringsPattern, InClosedPatterns, widened}
 
 -- ---- the closed patterns of some are those of each
@@ -43,21 +44,12 @@ module _ (w : WorldState) where
       on (inl c) b = inl (next c b)
       on (inr c) b = inr (next c b)
 
-  some_left : (xs ys : List Pattern) (p : Pattern) → SomeOf (λ q. q ≡ p) xs → SomeOf (λ q. q ≡ p) (xs ++ ys)
-  some_left [] ys p h = absurd h
-  some_left (x ∷ xs) ys p (inl e) = inl e
-  some_left (x ∷ xs) ys p (inr h) = inr (some_left xs ys p h)
-
-  some_right : (xs ys : List Pattern) (p : Pattern) → SomeOf (λ q. q ≡ p) ys → SomeOf (λ q. q ≡ p) (xs ++ ys)
-  some_right [] ys p h = h
-  some_right (x ∷ xs) ys p h = inr (some_right xs ys p h)
-
   into_left : (xs ys : List Pattern) {p : Pattern} → InClosedPatterns w xs p → InClosedPatterns w (xs ++ ys) p
-  into_left xs ys {p = p} (root h) = root (some_left xs ys p h)
+  into_left xs ys {p = p} (root h) = root (some_left _ xs ys h)
   into_left xs ys (next c b) = next (into_left xs ys c) b
 
   into_right : (xs ys : List Pattern) {p : Pattern} → InClosedPatterns w ys p → InClosedPatterns w (xs ++ ys) p
-  into_right xs ys {p = p} (root h) = root (some_right xs ys p h)
+  into_right xs ys {p = p} (root h) = root (some_right _ xs ys h)
   into_right xs ys (next c b) = next (into_right xs ys c) b
 
   pub passes_parts : (xs ys : List Pattern) (test : Pattern → Bool) → ClosedPasses w (xs ++ ys) test → ClosedPasses w xs test ⊎ ClosedPasses w ys test
@@ -89,45 +81,36 @@ module _ (w : WorldState) where
       here (inl c) = inl ((h test).1 c)
       here (inr c) = inr c
 
+  pub nothing_closed : {p : Pattern} → InClosedPatterns w [] p → ⊥
+  nothing_closed (root h) = h
+  nothing_closed (next c b) = nothing_closed c
+
   pub lists_none : ListsClosed w [] []
-  lists_none test = (λ h. absurd (true≢false (sym h)), λ c. absurd (nothing (c.1).1))
-    where
-      nothing : {p : Pattern} → InClosedPatterns w [] p → ⊥
-      nothing (root h) = h
-      nothing (next c b) = nothing c
+  lists_none test = (λ h. absurd (true≢false (sym h)), λ c. absurd (nothing_closed (c.1).1))
 
   -- ---- the closed patterns of one are those with the heads that With leads to
 
-  abbrev pub HasHead : Pattern → Entity → Type 0
-  HasHead (One e) h = e ≡ h
-  HasHead (Two (Is r) q) h = r ≡ h
-  HasHead (Two Each q) h = ⊥
-  HasHead (Two Any q) h = ⊥
+  pub own_head : (p : Pattern) (h : Entity) → pattern_head p ≡ Some h → pattern_with_head p h ≡ p
+  own_head (One e) h at = ap One (sym (same_Some e h at))
+  own_head (Two (Is r) q) h at = ap (λ x. Two (Is x) q) (sym (same_Some r h at))
+  own_head _ h at = absurd (none-some h at)
 
-  own_head : (p : Pattern) (h : Entity) → HasHead p h → pattern_with_head p h ≡ p
-  own_head (One e) h is = ap One (sym is)
-  own_head (Two (Is r) q) h is = ap (λ x. Two (Is x) q) (sym is)
-  own_head (Two Each q) h is = absurd is
-  own_head (Two Any q) h is = absurd is
-
-  one_brings : (p : Pattern) (a b : Entity) → IsTrue (has w a (id.Two WITH b)) → BringsPattern w (pattern_with_head p a) (pattern_with_head p b)
+  pub one_brings : (p : Pattern) (a b : Entity) → IsTrue (has w a (id.Two WITH b)) → BringsPattern w (pattern_with_head p a) (pattern_with_head p b)
   one_brings (One c) a b h = h
   one_brings (Two r t) a b h = (h, refl)
 
-  reach_to_closed : (p : Pattern) (h : Entity) → HasHead p h → {x : Entity} → Reaches w WITH h x → InClosedPatterns w (p ∷ []) (pattern_with_head p x)
+  reach_to_closed : (p : Pattern) (h : Entity) → pattern_head p ≡ Some h → {x : Entity} → Reaches w WITH h x →
+      InClosedPatterns w (p ∷ []) (pattern_with_head p x)
   reach_to_closed p h is (root e) = root (inl (sym (ap (pattern_with_head p) e ∙ own_head p h is)))
   reach_to_closed p h is (next {a = a} {b = b} member edge) = next (reach_to_closed p h is member) (one_brings p a b edge)
 
-  brought_head : (p : Pattern) (a : Entity) (q : Pattern) → BringsPattern w (pattern_with_head p a) q → (x : Entity) × IsTrue (has w a (id.Two WITH x)) ×
+  pub brought_head : (p : Pattern) (a : Entity) (q : Pattern) → BringsPattern w (pattern_with_head p a) q → (x : Entity) × IsTrue (has w a (id.Two WITH x)) ×
       (q ≡ pattern_with_head p x)
   brought_head (One c) a (One x) h = (x, h, refl)
-  brought_head (One c) a (Two r t) h = absurd h
-  brought_head (Two r t) a (One x) h = absurd h
-  brought_head (Two r t) a (Two Each u) h = absurd h
-  brought_head (Two r t) a (Two Any u) h = absurd h
   brought_head (Two r t) a (Two (Is x) u) h = (x, h.0, ap (Two (Is x)) h.1)
+  brought_head _ a _ h = absurd h
 
-  closed_to_reach : (p : Pattern) (h : Entity) → HasHead p h → {q : Pattern} → InClosedPatterns w (p ∷ []) q → (x : Entity) × Reaches w WITH h x ×
+  closed_to_reach : (p : Pattern) (h : Entity) → pattern_head p ≡ Some h → {q : Pattern} → InClosedPatterns w (p ∷ []) q → (x : Entity) × Reaches w WITH h x ×
       (q ≡ pattern_with_head p x)
   closed_to_reach p h is (root (inl e)) = (h, root refl, sym e ∙ sym (own_head p h is))
   closed_to_reach p h is (root (inr n)) = absurd n
@@ -157,12 +140,6 @@ module _ (w : WorldState) where
       ]
 
   -- a pattern with a head
-  has_head : (p : Pattern) (h : Entity) → pattern_head p ≡ Some h → HasHead p h
-  has_head (One e) h is = same_Some e h is
-  has_head (Two (Is r) q) h is = same_Some r h is
-  has_head (Two Each q) h is = absurd (none-some h is)
-  has_head (Two Any q) h is = absurd (none-some h is)
-
   pub among_reached : (p : Pattern) (h : Entity) (heads : List Entity) (old : List Pattern) → pattern_head p ≡ Some h →
       ((x : Entity) → IsTrue (has_item entity_cmp heads x) ↔ Reaches w WITH h x) → Among w p old (old ++ map (λ x. widened w (pattern_with_head p x)) heads)
   among_reached p h heads old at exact test = (
@@ -170,54 +147,38 @@ module _ (w : WorldState) where
     λ c. list_any-append test old (map (λ x. widened w (pattern_with_head p x)) heads) ∙ here c,
   )
     where
-      is : HasHead p h
-      is = has_head p h at
-
       there : IsTrue (list_any test old) ⊎ IsTrue (list_any test (map (λ x. widened w (pattern_with_head p x)) heads)) →
           IsTrue (list_any test old) ⊎ ClosedPasses w (p ∷ []) test
       there (inl o) = inl o
       there (inr m) =
           let x = listed_head p heads test m in
-          inr (widened w (pattern_with_head p x.0), (pattern_with_head p x.0, reach_to_closed p h is ((exact x.0).0 x.1), refl), x.2)
+          inr (widened w (pattern_with_head p x.0), (pattern_with_head p x.0, reach_to_closed p h at ((exact x.0).0 x.1), refl), x.2)
 
       here : IsTrue (list_any test old) ⊎ ClosedPasses w (p ∷ []) test →
           IsTrue (list_any test old || list_any test (map (λ x. widened w (pattern_with_head p x)) heads))
       here (inl o) = or_left _ _ o
       here (inr c) =
-          let x = closed_to_reach p h is (c.1).1 in
+          let x = closed_to_reach p h at (c.1).1 in
           or_right (list_any test old) _ (head_listed p heads test x.0 ((exact x.0).1 x.1) (subst (λ q. IsTrue (test q)) ((c.1).2 ∙ ap (widened w) x.2) c.2))
 
   -- one without: nothing is brought
-  abbrev pub IsWild : Pattern → Type 0
-  IsWild (One e) = ⊥
-  IsWild (Two (Is r) q) = ⊥
-  IsWild (Two Each q) = Unit {0}
-  IsWild (Two Any q) = Unit {0}
+  pub wild_brings : (p q : Pattern) → pattern_head p ≡ None → BringsPattern w p q → ⊥
+  wild_brings (One e) q at h = none-some e (sym at)
+  wild_brings (Two (Is r) t) q at h = none-some r (sym at)
+  wild_brings (Two Each t) (One x) at h = h
+  wild_brings (Two Each t) (Two p u) at h = h
+  wild_brings (Two Any t) (One x) at h = h
+  wild_brings (Two Any t) (Two p u) at h = h
 
-  wild_brings : (p q : Pattern) → IsWild p → BringsPattern w p q → ⊥
-  wild_brings (One e) q is h = is
-  wild_brings (Two (Is r) t) q is h = is
-  wild_brings (Two Each t) (One x) is h = h
-  wild_brings (Two Each t) (Two p u) is h = h
-  wild_brings (Two Any t) (One x) is h = h
-  wild_brings (Two Any t) (Two p u) is h = h
+  wild_widened : (p : Pattern) → pattern_head p ≡ None → widened w p ≡ p
+  wild_widened (One e) at = absurd (none-some e (sym at))
+  wild_widened (Two (Is r) t) at = absurd (none-some r (sym at))
+  wild_widened _ at = refl
 
-  wild_widened : (p : Pattern) → IsWild p → widened w p ≡ p
-  wild_widened (One e) is = absurd is
-  wild_widened (Two (Is r) t) is = absurd is
-  wild_widened (Two Each t) is = refl
-  wild_widened (Two Any t) is = refl
-
-  wild_alone : (p : Pattern) → IsWild p → {q : Pattern} → InClosedPatterns w (p ∷ []) q → p ≡ q
-  wild_alone p is (root (inl e)) = e
-  wild_alone p is (root (inr n)) = absurd n
-  wild_alone p is (next {a = a} {b = b} member brings) = absurd (wild_brings p b is (subst (λ r. BringsPattern w r b) (sym (wild_alone p is member)) brings))
-
-  is_wild : (p : Pattern) → pattern_head p ≡ None → IsWild p
-  is_wild (One e) at = absurd (none-some e (sym at))
-  is_wild (Two (Is r) q) at = absurd (none-some r (sym at))
-  is_wild (Two Each q) at = tt
-  is_wild (Two Any q) at = tt
+  wild_alone : (p : Pattern) → pattern_head p ≡ None → {q : Pattern} → InClosedPatterns w (p ∷ []) q → p ≡ q
+  wild_alone p at (root (inl e)) = e
+  wild_alone p at (root (inr n)) = absurd n
+  wild_alone p at (next {a = a} {b = b} member brings) = absurd (wild_brings p b at (subst (λ r. BringsPattern w r b) (sym (wild_alone p at member)) brings))
 
   pub among_wild : (p : Pattern) (old : List Pattern) → pattern_head p ≡ None → Among w p old (old ++ p ∷ [])
   among_wild p old at test = (
@@ -225,18 +186,15 @@ module _ (w : WorldState) where
     λ c. list_any-append test old (p ∷ []) ∙ here c,
   )
     where
-      is : IsWild p
-      is = is_wild p at
-
       there : IsTrue (list_any test old) ⊎ IsTrue (test p || false) → IsTrue (list_any test old) ⊎ ClosedPasses w (p ∷ []) test
       there (inl o) = inl o
       there (inr m) = elim (or_parts (test p) false m) as (λ _. IsTrue (list_any test old) ⊎ ClosedPasses w (p ∷ []) test) [
-        | inl k ↦ inr (p, (p, root (inl refl), sym (wild_widened p is)), k)
+        | inl k ↦ inr (p, (p, root (inl refl), sym (wild_widened p at)), k)
         | inr k ↦ absurd (true≢false (sym k))
       ]
 
       here : IsTrue (list_any test old) ⊎ ClosedPasses w (p ∷ []) test → IsTrue (list_any test old || (test p || false))
       here (inl o) = or_left _ _ o
       here (inr c) =
-          let same = wild_alone p is (c.1).1 in
-          or_right (list_any test old) _ (or_left _ _ (subst (λ q. IsTrue (test q)) ((c.1).2 ∙ ap (widened w) (sym same) ∙ wild_widened p is) c.2))
+          let same = wild_alone p at (c.1).1 in
+          or_right (list_any test old) _ (or_left _ _ (subst (λ q. IsTrue (test q)) ((c.1).2 ∙ ap (widened w) (sym same) ∙ wild_widened p at) c.2))

@@ -1,5 +1,5 @@
 -- What a system's commands touch lies in its closed writes.
-use Rattle.std.proofs.Common.{◌≡◌, Bool, true, false, cond, ◌&&◌, List, [], ◌∷◌, refl, sym, ap, ◌∙◌, subst, true≢false, IsTrue, ◌⊎◌, inl, inr}
+use Rattle.std.proofs.Common.{◌≡◌, Bool, true, false, cond, List, [], ◌∷◌, refl, sym, ap, ◌∙◌, subst, true≢false, IsTrue, ◌⊎◌, inl, inr}
 use Rattle.std.specs.List.{list_any}
 use Rattle.eco_ids.specs.declared.entity.Entity.{Entity}
 use Rattle.eco_ids.specs.declared.entity.TheConstants.{EXCLUSIVE, SYMMETRIC, WITH}
@@ -11,8 +11,7 @@ use Rattle.eco_ids.specs.declared.pattern.Pattern.{Pattern}
 use Rattle.eco_ids.specs.declared.pattern.Pattern.TheVariants.{One, Two}
 use Rattle.eco_ids.specs.declared.edition.Edition.{Edition}
 use Rattle.eco_ids.specs.declared.edition.Edition.TheVariants.{First, Second}
-use Rattle.eco_ids.specs.Builtin.{is_among_first}
-use Rattle.eco_ids.specs.Edition.{builtin_count, has_symmetric}
+use Rattle.eco_ids.specs.Edition.{has_symmetric}
 use Rattle.eco_ids.specs.Least.{root, next}
 use Rattle.eco_ids.specs.Matching.{part_matches, pattern_matches, pattern_overlaps}
 use Rattle.eco_ids.specs.Order.{entity_eq}
@@ -25,8 +24,13 @@ use Rattle.eco_ids.proofs.Meaning.{closure_least}
 use Rattle.eco_ids.proofs.Overlaps.{entity_eq_is, entity_eq_itself, overlaps_exactly}
 use Rattle.eco_systems.specs.Batches.{Disturbs}
 use Rattle.eco_systems.specs.Systems.{SystemModel, IsDeclared, matches_one, system_reads}
+use Rattle.eco_systems.specs.Writes.{is_builtin_trait}
 use Rattle.eco_systems.specs.Writes.{SomeOf, InClosedPatterns, widened, IsClosedWrite, writes_trait, IsTraitWriter}
-use Rattle.eco_systems.proofs.Steps.{Touches, Touched, Gained, Given, Goes, IsMild, IsTwin}
+use Rattle.std.proofs.Common.{Result}
+use Rattle.eco_ids.specs.declared.refusal.Refusal.{Refusal}
+use Rattle.eco_ids.specs.Run.{Applies}
+use Rattle.eco_systems.proofs.Steps.{Touches, Given, Goes, IsTwin, Leads, makes_alive_effect, adds_effect, removes_effect, sets_effect, clears_effect}
+use Rattle.eco_systems.proofs.Steps.{renames_effect, deletes_one_effect, deletes_with_effect, removes_all_effect}
 
 -- ---- traits
 
@@ -45,27 +49,16 @@ symmetric_within start w r within h =
     let has_it : IsTrue (has_symmetric start.edition) = sym (ap has_symmetric within.0) ∙ first (has_symmetric w.edition) _ h in
     both (has_symmetric start.edition) _ has_it (within.1 r (id.One SYMMETRIC) (inr (has_it, refl)) (second (has_symmetric w.edition) _ h))
 
--- Exclusive and With are built-ins in each edition
-exclusive_writes : (w : WorldState) → IsTrue (writes_trait w.edition (One EXCLUSIVE))
-exclusive_writes w = by w.edition
-  where
-    by : (edition : Edition) → IsTrue (is_among_first (builtin_count edition) EXCLUSIVE && true)
-    by First = refl
-    by Second = refl
+-- a pattern of such an id writes traits, in each edition
+single_trait : (edition : Edition) (e : Entity) → IsTraitId edition (id.One e) → IsTrue (writes_trait edition (One e))
+single_trait First e (inl is) = rw is refl
+single_trait Second e (inl is) = rw is refl
+single_trait First e (inr trait) = absurd (true≢false (sym trait.0))
+single_trait Second e (inr trait) = rw trait.1 refl
 
-symmetric_writes : (w : WorldState) → IsTrue (has_symmetric w.edition) → IsTrue (writes_trait w.edition (One SYMMETRIC))
-symmetric_writes w h = by w.edition h
-  where
-    by : (edition : Edition) → IsTrue (has_symmetric edition) → IsTrue (is_among_first (builtin_count edition) SYMMETRIC && true)
-    by First k = absurd (true≢false (sym k))
-    by Second k = refl
-
-with_writes : (w : WorldState) (u : Part) → IsTrue (writes_trait w.edition (Two (Is WITH) u))
-with_writes w u = or_left _ _ (by w.edition)
-  where
-    by : (edition : Edition) → IsTrue (is_among_first (builtin_count edition) WITH && true)
-    by First = refl
-    by Second = refl
+with_trait : (edition : Edition) → IsTrue (is_builtin_trait edition WITH)
+with_trait First = refl
+with_trait Second = refl
 
 -- ---- the closure of an id lies in the closure of its pattern
 
@@ -107,29 +100,25 @@ module _ (start : WorldState) (writes : List Pattern) where
       next member (subst (λ y. IsTrue (has start y (id.Two WITH x))) (sym (entity_eq_is own c m)) (within.1 c (id.Two WITH x) refl brings)),
       entity_eq_itself x,
     )
-    brought w within (One own) (id.One c) (id.Two x u) member m brings = absurd brings
     brought w within (One own) (id.Two r t) k member m brings = absurd (true≢false (sym m))
     brought w within (Two p u) (id.One c) k member m brings = absurd (true≢false (sym m))
     brought w within (Two Each u) (id.Two r t) k member m brings = absurd (not_each u member)
     brought w within (Two Any u) (id.Two r t) k member m brings = absurd (not_any u member)
-    brought w within (Two (Is own) u) (id.Two r t) (id.One x) member m brings = absurd brings
     brought w within (Two (Is own) u) (id.Two r t) (id.Two x v) member m brings = (
       Two (Is x) u,
       next member (subst (λ y. IsTrue (has start y (id.Two WITH x))) (sym (entity_eq_is own r (first _ _ m))) (within.1 r (id.Two WITH x) refl brings.0), refl),
       both _ _ (entity_eq_itself x) (subst (λ y. IsTrue (part_matches u y)) (sym brings.1) (second (entity_eq own r) _ m)),
     )
+    brought w within _ _ _ member m brings = absurd brings
 
     closure_covered : (w : WorldState) → TraitsWithin start w → (i : Id) → IsTrue (matches_one writes i) → (j : Id) → InClosure w i j → Covered start writes j
     closure_covered w within i here = closure_least w i (Covered start writes) (begins i here) (λ j k c b. brought w within c.0 j k c.1 c.2 b)
 
     -- no trait comes by such an add
     no_trait_added : (q : Pattern) (j : Id) → InClosedPatterns start writes q → IsTrue (pattern_matches q j) → IsTraitId start.edition j → ⊥
-    no_trait_added (One own) (id.One e) member m (inl trait) =
+    no_trait_added (One own) (id.One e) member m trait =
         plain (One own) (One own, member, refl)
-        (subst (λ y. IsTrue (writes_trait start.edition (One y))) (sym (entity_eq_is own e m ∙ trait)) (exclusive_writes start))
-    no_trait_added (One own) (id.One e) member m (inr trait) =
-        plain (One own) (One own, member, refl)
-        (subst (λ y. IsTrue (writes_trait start.edition (One y))) (sym (entity_eq_is own e m ∙ trait.1)) (symmetric_writes start trait.0))
+        (subst (λ y. IsTrue (writes_trait start.edition (One y))) (sym (entity_eq_is own e m)) (single_trait start.edition e trait))
     no_trait_added (One own) (id.Two r t) member m trait = absurd (true≢false (sym m))
     no_trait_added (Two p u) (id.One e) member m trait = absurd (true≢false (sym m))
     no_trait_added (Two Each u) (id.Two r t) member m trait = not_each u member
@@ -138,8 +127,8 @@ module _ (start : WorldState) (writes : List Pattern) where
         plain (widened start (Two (Is own) u)) (Two (Is own) u, member, refl) (still_trait (is_widened start own) (entity_eq_is own r (first _ _ m) ∙ trait))
       where
         still_trait : (b : Bool) → own ≡ WITH → IsTrue (writes_trait start.edition (cond b (Two (Is own) Each) (Two (Is own) u)))
-        still_trait true e = subst (λ y. IsTrue (writes_trait start.edition (Two (Is y) Each))) (sym e) (with_writes start Each)
-        still_trait false e = subst (λ y. IsTrue (writes_trait start.edition (Two (Is y) u))) (sym e) (with_writes start u)
+        still_trait true e = subst (λ y. IsTrue (writes_trait start.edition (Two (Is y) Each))) (sym e) (or_left _ _ (with_trait start.edition))
+        still_trait false e = subst (λ y. IsTrue (writes_trait start.edition (Two (Is y) u))) (sym e) (or_left _ _ (with_trait start.edition))
 
   -- ---- a widened pattern matches what it matched
 
@@ -154,7 +143,7 @@ module _ (start : WorldState) (writes : List Pattern) where
       wide true (id.Two q t) m = both _ _ (first (entity_eq r q) _ m) refl
       wide false j m = m
 
-  abbrev Written : Id → Type 0
+  abbrev pub Written : Id → Type 0
   Written j = (p : Pattern) × IsClosedWrite start writes p × IsTrue (pattern_matches p j)
 
   written_closed : (j : Id) → Covered start writes j → Written j
@@ -179,11 +168,10 @@ module _ (start : WorldState) (writes : List Pattern) where
   -- a pair of the same symmetric relationship
   twin_written : NoTraits start writes → (w : WorldState) → TraitsWithin start w → (i : Id) → IsTrue (matches_one writes i) → (j : Id) → IsTwin w i j
       → Written j
-  twin_written plain w within (id.One c) here j h = absurd h
-  twin_written plain w within (id.Two r t) here (id.One x) h = absurd h
   twin_written plain w within (id.Two r t) here (id.Two q u) h =
       subst (λ y. Written (id.Two y u)) (sym h.1)
       (evicted_written plain r u t (or_left _ _ (symmetric_within start w r within h.0)) (begins (id.Two r t) here))
+  twin_written plain w within _ here _ h = absurd h
 
   goes_written : NoTraits start writes → (w : WorldState) → TraitsWithin start w → (i : Id) → IsTrue (matches_one writes i) → (j : Id) → Goes w i j → Written j
   goes_written plain w within i here j (inl h) = subst Written (sym h) (written_closed i (begins i here))
@@ -198,18 +186,6 @@ module _ (start : WorldState) (writes : List Pattern) where
       (closure_covered plain w within i here (id.Two r h.1) h.2)
   touches_written plain w within i here j (inr (inr h)) = twin_written plain w within i here j h
 
-  touched_written : NoTraits start writes → (w : WorldState) → TraitsWithin start w → (c : Command) → IsMild c → (kills : Bool) → IsDeclared writes kills c →
-      (j : Id) → Touched w c j → Written j
-  touched_written plain w within (Create e) mild kills d j h = absurd h
-  touched_written plain w within (Add e i) mild kills d j h = touches_written plain w within i d j h
-  touched_written plain w within (Remove e i) mild kills d j h = goes_written plain w within i d j h
-  touched_written plain w within (Set e i v) mild kills d j h = touches_written plain w within i d j h
-  touched_written plain w within (Clear e) mild kills d j h = absurd mild
-  touched_written plain w within (Rename e name) mild kills d j h = absurd h
-  touched_written plain w within (Delete e) mild kills d j h = absurd mild
-  touched_written plain w within (DeleteWith i) mild kills d j h = absurd mild
-  touched_written plain w within (RemoveAll i) mild kills d j h = goes_written plain w within i d j h
-
   given_no_trait : NoTraits start writes → (w : WorldState) → TraitsWithin start w → (i : Id) → IsTrue (matches_one writes i) → (j : Id) →
       IsTraitId start.edition j → Given w i j → ⊥
   given_no_trait plain w within i here j trait (inl h) = let c = closure_covered plain w within i here j h in no_trait_added plain c.0 j c.1 c.2 trait
@@ -218,17 +194,38 @@ module _ (start : WorldState) (writes : List Pattern) where
   given_no_trait plain w within (id.Two r t) here (id.Two q u) trait (inr h) =
       let c = begins (id.Two r t) here in no_trait_added plain c.0 (id.Two r t) c.1 c.2 (sym h.1 ∙ trait)
 
-  pub gained_no_trait : NoTraits start writes → (w : WorldState) → TraitsWithin start w → (c : Command) (kills : Bool) → IsDeclared writes kills c →
-      (j : Id) → IsTraitId start.edition j → Gained w c j → ⊥
-  gained_no_trait plain w within (Create e) kills d j trait h = h
-  gained_no_trait plain w within (Add e i) kills d j trait h = given_no_trait plain w within i d j trait h
-  gained_no_trait plain w within (Remove e i) kills d j trait h = h
-  gained_no_trait plain w within (Set e i v) kills d j trait h = given_no_trait plain w within i d j trait h
-  gained_no_trait plain w within (Clear e) kills d j trait h = h
-  gained_no_trait plain w within (Rename e name) kills d j trait h = h
-  gained_no_trait plain w within (Delete e) kills d j trait h = h
-  gained_no_trait plain w within (DeleteWith i) kills d j trait h = h
-  gained_no_trait plain w within (RemoveAll i) kills d j trait h = h
+  -- ---- what a system's command leads to
+
+  -- what is touched is written, and what is given is no trait
+  wider : {kills : Bool} {w : WorldState} {T G : Id → Type 0} {Step : Result (Unit {0}) Refusal → WorldState → Type 0}
+      → ((j : Id) → T j → Written j) → ((j : Id) → IsTraitId start.edition j → G j → ⊥) →
+      Leads kills w T G Step → Leads kills w Written (λ j. IsTraitId start.edition j → ⊥) Step
+  wider {w = w} {G = G} within plain effect = record {
+    at = λ r new h. let x = effect.at r new h in record {
+      edition = x.edition;
+      arity = x.arity;
+      held = λ tame y j n. x.held tame y j (λ k. n (within j k));
+      gains = λ y j k. given y j (x.gains y j k);
+    };
+  }
+    where
+      given : (y : Entity) (j : Id) → IsTrue (has w y j) ⊎ G j → IsTrue (has w y j) ⊎ (IsTraitId start.edition j → ⊥)
+      given y j (inl a) = inl a
+      given y j (inr g) = inr (λ trait. plain j trait g)
+
+  pub applies_effect : NoTraits start writes → {kills : Bool} (w : WorldState) → TraitsWithin start w → (c : Command) → IsDeclared writes kills c →
+      Leads kills w Written (λ j. IsTraitId start.edition j → ⊥) (Applies c w)
+  applies_effect plain w within (Create e) d = makes_alive_effect w e
+  applies_effect plain w within (Add e i) d =
+      wider (touches_written plain w within i d) (given_no_trait plain w within i d) (adds_effect w e i)
+  applies_effect plain w within (Remove e i) d = wider (goes_written plain w within i d) (λ j trait none. none) (removes_effect w e i)
+  applies_effect plain w within (Set e i v) d =
+      wider (touches_written plain w within i d) (given_no_trait plain w within i d) (sets_effect w e i v)
+  applies_effect plain w within (Clear e) d = clears_effect d w e
+  applies_effect plain w within (Rename e name) d = renames_effect w e name
+  applies_effect plain w within (Delete e) d = deletes_one_effect d w e
+  applies_effect plain w within (DeleteWith i) d = deletes_with_effect d w i
+  applies_effect plain w within (RemoveAll i) d = wider (goes_written plain w within i d) (λ j trait none. none) (removes_all_effect w i)
 
 -- ---- what is read is not touched
 
@@ -236,8 +233,6 @@ overlaps_one : (p : Pattern) (reads : List Pattern) (j : Id) → IsTrue (pattern
     IsTrue (list_any (pattern_overlaps p) reads)
 overlaps_one p reads j m h = let r = any_is (λ q. pattern_matches q j) reads h in r.2 (pattern_overlaps p) ((overlaps_exactly p r.0).1 (j, m, r.1))
 
-pub read_untouched : (start : WorldState) (s t : SystemModel) → (IsTraitWriter start s → ⊥) → (Disturbs start s t → ⊥) → (w : WorldState) → TraitsWithin start w
-    → (c : Command) → IsMild c → IsDeclared s.writes s.kills c → (j : Id) → IsTrue (matches_one (system_reads t) j) → Touched w c j → ⊥
-read_untouched start s t plain apart w within c mild d j read touched =
-    let p = touched_written start s.writes (no_traits start s plain) w within c mild s.kills d j touched in
-    apart (p.0, p.1, overlaps_one p.0 (system_reads t) j p.2 read)
+pub read_untouched : (start : WorldState) (s t : SystemModel) → (Disturbs start s t → ⊥) → (j : Id) → IsTrue (matches_one (system_reads t) j) →
+    Written start s.writes j → ⊥
+read_untouched start s t apart j read p = apart (p.0, p.1, overlaps_one p.0 (system_reads t) j p.2 read)

@@ -1,18 +1,16 @@
 -- The draws of a frame decide what it leads to, and one worker's draws are decided themselves.
 use Rattle.std.proofs.Common.{◌≡◌, ℕ, ◌+◌, Bool, true, false, not, ◌&&◌, List, [], ◌∷◌, ◌++◌, length, refl, sym, ap, ◌∙◌, subst, IsTrue, true≢false}
-use Rattle.std.proofs.Common.{MatchBool, Result, None, arith, append_assoc}
+use Rattle.std.proofs.Common.{MatchBool, Result, arith, append_assoc}
 use Rattle.std.specs.List.{AllByRecursion}
 use Rattle.std.proofs.lemmas.List.{append_cancel_left}
 use Rattle.std.proofs.lemmas.List.Folds.{list_all-append}
 use Rattle.eco_ids.specs.declared.entity.Entity.{Entity}
 use Rattle.eco_ids.specs.declared.refusal.Refusal.{Refusal}
-use Rattle.eco_ids.specs.Births.{bare}
 use Rattle.eco_ids.specs.Outcome.{Meets, is_out_of_memory}
-use Rattle.eco_ids.specs.Run.{Command, Create, Add, Remove, Set, Clear, Rename, Delete, DeleteWith, RemoveAll, Applies, may_want, Runs}
+use Rattle.eco_ids.specs.Run.{Command, Applies, may_want, Runs}
 use Rattle.eco_ids.specs.World.{WorldState}
 use Rattle.eco_ids.proofs.Ascending.{first, second}
-use Rattle.eco_ids.proofs.Ends.{adds_settled, clears_settled, deletes_one_settled, deletes_with_settled, makes_alive_settled, removes_all_settled}
-use Rattle.eco_ids.proofs.Ends.{removes_settled, renames_settled, sets_settled, IsSettled}
+use Rattle.eco_ids.proofs.Runs.{applies_settled}
 use Rattle.eco_systems.specs.Batches.{AreBatches, joined}
 use Rattle.eco_systems.specs.Frames.{AscendingRuns, BatchDraws, BatchRuns, Goes, InTurn, FrameOutcomes, all_drawn, fresh_from, with_admitted}
 use Rattle.eco_systems.specs.Laws.{DrawsDecide, OneWorkerDecides, TakesOne, was_ample}
@@ -22,13 +20,10 @@ use Rattle.eco_systems.specs.Rows.{ValuedRow, valued_rows}
 use Rattle.eco_systems.specs.Systems.{SystemModel}
 use Rattle.eco_systems.proofs.Frames.{all_in_order, all_joined}
 use Rattle.eco_systems.proofs.FreshDraws.{fresh_split}
+use Rattle.eco_systems.proofs.Lists.{joined_append}
 use Rattle.eco_systems.proofs.OneCut.{batches_unique}
 
 -- ---- recordings whose draws are beginnings of one list
-
-joined_append : {A : Type 0} (xss yss : List (List A)) → joined (xss ++ yss) ≡ joined xss ++ joined yss
-joined_append [] yss = refl
-joined_append (xs ∷ xss) yss = ap (λ l. xs ++ l) (joined_append xss yss) ∙ sym (append_assoc xs (joined xss) (joined yss))
 
 -- where two lists that go on to one list begin with the same, what comes behind goes on to one list too
 behind : {A : Type 0} (d e xs ys : List A) → d ≡ e → d ++ xs ≡ e ++ ys → xs ≡ ys
@@ -49,22 +44,19 @@ rows_once s one (row ∷ rows) d e x y c k g h whole =
 pieces_once : (s : SystemModel) → TakesOne s → (pieces : List (List ValuedRow)) (ds es : List (List Entity)) (x y : List Entity) (c k : List Command)
     → PiecesRecord s pieces ds c → PiecesRecord s pieces es k → joined ds ++ x ≡ joined es ++ y → (ds ≡ es) × (c ≡ k)
 pieces_once s one [] [] [] x y c k g h whole = (refl, g ∙ sym h)
-pieces_once s one [] (d ∷ ds) es x y c k g h whole = absurd g
 pieces_once s one [] [] (e ∷ es) x y c k g h whole = absurd h
-pieces_once s one (p ∷ ps) [] es x y c k g h whole = absurd g
 pieces_once s one (p ∷ ps) (d ∷ ds) [] x y c k g h whole = absurd h
 pieces_once s one (p ∷ ps) (d ∷ ds) (e ∷ es) x y c k g h whole =
     let parts = regroup d (joined ds) x e (joined es) y whole in
     let mine = rows_once s one p d e (joined ds ++ x) (joined es ++ y) g.0 h.0 g.2 h.2 parts in
     let rest = pieces_once s one ps ds es x y g.1 h.1 g.3 h.3 (behind d e (joined ds ++ x) (joined es ++ y) mine.0 parts) in
     ((λ i. mine.0 i ∷ rest.0 i), g.4 ∙ (λ i. mine.1 i ++ rest.1 i) ∙ sym h.4)
+pieces_once s one _ _ es x y c k g h whole = absurd g
 
 batch_once : (w : WorldState) (ss : List SystemModel) (ds es : BatchDraws) (x y : List Entity) (c k : List Command) → AllByRecursion TakesOne ss
     → BatchRecords w ss ds c → BatchRecords w ss es k → all_drawn ds ++ x ≡ all_drawn es ++ y → (ds ≡ es) × (c ≡ k)
 batch_once w [] [] [] x y c k one g h whole = (refl, g ∙ sym h)
-batch_once w [] (d ∷ ds) es x y c k one g h whole = absurd g
 batch_once w [] [] (e ∷ es) x y c k one g h whole = absurd h
-batch_once w (s ∷ ss) [] es x y c k one g h whole = absurd g
 batch_once w (s ∷ ss) (d ∷ ds) [] x y c k one g h whole = absurd h
 batch_once w (s ∷ ss) (d ∷ ds) (e ∷ es) x y c k one g h whole =
     let parts = regroup (joined d) (all_drawn ds) x (joined e) (all_drawn es) y
@@ -73,19 +65,9 @@ batch_once w (s ∷ ss) (d ∷ ds) (e ∷ es) x y c k one g h whole =
     let rest = batch_once w ss ds es x y g.1 h.1 one.1 g.3 h.3
     (behind (joined d) (joined e) (all_drawn ds ++ x) (all_drawn es ++ y) (ap joined mine.0) parts) in
     ((λ i. mine.0 i ∷ rest.0 i), g.4 ∙ (λ i. mine.1 i ++ rest.1 i) ∙ sym h.4)
+batch_once w _ _ es x y c k one g h whole = absurd g
 
 -- ---- runs in which no memory was wanting
-
-applies_settled : (c : Command) (w : WorldState) → IsSettled w (Applies c w)
-applies_settled (Create e) w = makes_alive_settled w e (bare None)
-applies_settled (Add e i) w = adds_settled w e i
-applies_settled (Remove e i) w = removes_settled w e i
-applies_settled (Set e i v) w = sets_settled w e i v
-applies_settled (Clear e) w = clears_settled w e
-applies_settled (Rename e name) w = renames_settled w e name
-applies_settled (Delete e) w = deletes_one_settled w e
-applies_settled (DeleteWith i) w = deletes_with_settled w i
-applies_settled (RemoveAll i) w = removes_all_settled w i
 
 done : (wanting : Bool) (P Q : Type 0) → IsTrue (not wanting) → MatchBool wanting P Q → Q
 done true P Q ample h = absurd (true≢false (sym ample))
@@ -98,15 +80,14 @@ step_once c w r q new other a b g h = (applies_settled c w).one r q new other (d
 runs_decided : (cs : List Command) (w : WorldState) (rs qs : FrameOutcomes) (new other : WorldState) → IsTrue (was_ample rs) → IsTrue (was_ample qs)
     → Runs w cs rs new → Runs w cs qs other → (rs ≡ qs) × (new ≡ other)
 runs_decided [] w [] [] new other a b g h = (refl, g ∙ sym h)
-runs_decided [] w (r ∷ rs) qs new other a b g h = absurd g
 runs_decided [] w [] (q ∷ qs) new other a b g h = absurd h
-runs_decided (c ∷ cs) w [] qs new other a b g h = absurd g
 runs_decided (c ∷ cs) w (r ∷ rs) [] new other a b g h = absurd h
 runs_decided (c ∷ cs) w (r ∷ rs) (q ∷ qs) new other a b g h =
     let now = step_once c w r q g.0 h.0 (first (not (is_out_of_memory r)) _ a) (first (not (is_out_of_memory q)) _ b) g.1 h.1 in
     let later = runs_decided cs g.0 rs qs new other (second (not (is_out_of_memory r)) _ a) (second (not (is_out_of_memory q)) _ b) g.2
     (subst (λ m. Runs m cs qs other) (sym now.1) h.2) in
     ((λ i. now.0 i ∷ later.0 i), later.1)
+runs_decided _ w _ qs new other a b g h = absurd g
 
 -- a batch that is recorded on one world, whose draws go on to one list
 batch_decided : (w : WorldState) (batch : List SystemModel) (ds es : BatchDraws) (x y : List Entity) (rs qs : FrameOutcomes) (new other : WorldState)
@@ -135,9 +116,7 @@ module _ (Way : WorldState → List SystemModel → BatchDraws → FrameOutcomes
       → AllByRecursion (AllByRecursion TakesOne) batches → AllFit Fits ds es → IsTrue (was_ample rs) → IsTrue (was_ample qs)
       → InTurn Way w batches ds rs new → InTurn Way w batches es qs other → (ds ≡ es) × (rs ≡ qs) × (new ≡ other)
   turns_once [] w [] [] rs qs new other one fit a b g h = (refl, g.0 ∙ sym h.0, g.1 ∙ sym h.1)
-  turns_once [] w (d ∷ ds) es rs qs new other one fit a b g h = absurd g
   turns_once [] w [] (e ∷ es) rs qs new other one fit a b g h = absurd h
-  turns_once (t ∷ ts) w [] es rs qs new other one fit a b g h = absurd g
   turns_once (t ∷ ts) w (d ∷ ds) [] rs qs new other one fit a b g h = absurd h
   turns_once (t ∷ ts) w (d ∷ ds) (e ∷ es) rs qs new other one fit a b g h =
       let left : IsTrue (was_ample g.0 && was_ample g.1) = sym (list_all-append (λ r. not (is_out_of_memory r)) g.0 g.1) ∙ ap was_ample (sym g.5) ∙ a in
@@ -146,6 +125,7 @@ module _ (Way : WorldState → List SystemModel → BatchDraws → FrameOutcomes
       let later = turns_once ts g.2 ds es g.1 h.1 new other one.1 fit.1 (second (was_ample g.0) _ left) (second (was_ample h.0) _ right) g.4
       (subst (λ m. InTurn Way m ts es h.1 other) (sym now.2) h.4) in
       ((λ i. now.0 i ∷ later.0 i), g.5 ∙ (λ i. now.1 i ++ later.1 i) ∙ sym h.5, later.2)
+  turns_once _ w _ es rs qs new other one fit a b g h = absurd g
 
   -- all batches that there are
   goes_once : (w : WorldState) (systems : List SystemModel) (ds es : List BatchDraws) (rs qs : FrameOutcomes) (new other : WorldState)

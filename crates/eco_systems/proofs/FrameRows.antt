@@ -6,7 +6,7 @@ use Rattle.eco_ids.specs.declared.pattern.Pattern.TheVariants as pattern
 use Rattle.eco_ids.specs.Terms as ask
 use Rattle.eco_ids.specs.declared.edition.Edition.TheVariants.{First}
 use Rattle.eco_ids.specs.Indices.{Living}
-use Rattle.eco_ids.specs.Run.{Command, Create}
+use Rattle.eco_ids.specs.Run.{Create}
 use Rattle.eco_ids.specs.World.{WorldState, Record, builtin_states, entities, zeros}
 use Rattle.eco_query.specs.declared.access.Access.TheVariants.{InOut}
 use Rattle.eco_systems.specs.declared.phase.Phase.TheVariants.{OnLoad, OnUpdate, OnStore}
@@ -30,21 +30,12 @@ start = record {
 }
 
 abbrev last : WorldState
-last = record {
-  edition = First;
-  limit = 12;
-  queries = [];
-  indices = builtin_states First ++ Living 0 (with_ids []) ∷ Living 0
-      (with_ids (id.One (fresh_entity 9) ∷ [])) ∷ Living 0 (with_ids []) ∷ [];
-}
+last = record start { indices = start.indices ++ Living 0 (with_ids []) ∷ [] }
 
 abbrev takes_one : List Entity → Bool
 takes_one [] = false
 takes_one (e ∷ []) = true
 takes_one (e ∷ f ∷ es) = false
-
-abbrev creates : List Entity → List Command
-creates es = map Create es
 
 abbrev spawner : SystemModel
 spawner = record {
@@ -54,7 +45,7 @@ spawner = record {
   writes = [];
   kills = false;
   takes = λ row draws. takes_one draws;
-  records = λ row draws. creates draws;
+  records = λ row draws. map Create draws;
 }
 
 abbrev one_draw : BatchDraws
@@ -86,10 +77,10 @@ row_frame = (
 )
 
 -- 65 rows are a piece of 64 and one of 1
-some_row : ValuedRow
+abbrev some_row : ValuedRow
 some_row = record { entity = fresh_entity 9; entries = []; values = [] }
 
-row_pieces : map length (pieces_of (replicate 65 (record { entity = fresh_entity 9; entries = []; values = [] }))) ≡ 64 ∷ 1 ∷ []
+row_pieces : map length (pieces_of (replicate 65 some_row)) ≡ 64 ∷ 1 ∷ []
 row_pieces = refl
 
 -- systems of the last, the first and the middle phase, and one of the first more

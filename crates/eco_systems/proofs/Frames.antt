@@ -7,6 +7,7 @@ use Rattle.std.specs.Option.{option_and_then}
 use Rattle.std.specs.FinMap.Entries.{find}
 use Rattle.std.proofs.lemmas.List.{append-nil}
 use Rattle.std.proofs.lemmas.List.Folds.{list_any-append}
+use Rattle.eco_ids.proofs.Facts.{or_left}
 use Rattle.eco_ids.specs.declared.entity.Entity.{Entity}
 use Rattle.eco_ids.specs.declared.id.Id.{Id}
 use Rattle.eco_ids.specs.declared.refusal.Refusal.TheVariants.{NoMoreIds}
@@ -29,11 +30,11 @@ use Rattle.eco_systems.specs.Laws.{FramesAreSolo, FramesKeepLawful, StoppedAreSo
 use Rattle.eco_systems.specs.Phases.{in_order, phases, runs_in}
 use Rattle.eco_systems.specs.declared.phase.Phase.{Phase}
 use Rattle.eco_systems.specs.Recording.{Records, PiecesRecord, BatchRecords, pieces_of}
-use Rattle.eco_systems.specs.Systems.{SystemModel, IsLawfulSystem, system_reads, matches_one}
+use Rattle.eco_systems.specs.Systems.{SystemModel, IsDeclared, IsLawfulSystem, system_reads, matches_one}
 use Rattle.eco_systems.specs.Writes.{IsTraitWriter, SomeOf}
 use Rattle.eco_systems.proofs.Answers.{Sees, sees_reads}
 use Rattle.eco_systems.proofs.Covered.{TraitsWithin}
-use Rattle.eco_systems.proofs.Lists.{all_append}
+use Rattle.eco_systems.proofs.Lists.{all_append, some_left, some_right}
 use Rattle.eco_systems.proofs.Rows.{rows_same}
 use Rattle.eco_systems.proofs.Runs.{runs_split, records_declared, runs_traits, runs_same}
 use Rattle.eco_systems.proofs.Same.{LooksSame, looks_then}
@@ -59,17 +60,6 @@ module _ (w : WorldState) (n : ℕ) where
       let after : Indexed Record = admitted n (entities w) in
       admits_lawful w n (Ok tt) (with_admitted n w) l
       (after, subst (λ b. MatchBool b (Answers tt after (Ok tt) after) (Refuses NoMoreIds (entities w) (Ok tt) after)) (sym room) (refl, refl), refl)
-
--- ---- one of some
-
-some_left : {A : Type 0} (P : A → Type 0) (xs ys : List A) → SomeOf P xs → SomeOf P (xs ++ ys)
-some_left P [] ys h = absurd h
-some_left P (x ∷ xs) ys (inl h) = inl h
-some_left P (x ∷ xs) ys (inr h) = inr (some_left P xs ys h)
-
-some_right : {A : Type 0} (P : A → Type 0) (xs ys : List A) → SomeOf P ys → SomeOf P (xs ++ ys)
-some_right P [] ys h = h
-some_right P (x ∷ xs) ys h = inr (some_right P xs ys h)
 
 pub all_apart_append : {A : Type 0} (P : A → Type 0) (xs ys : List A) → AllByRecursion P (xs ++ ys) → AllByRecursion P xs × AllByRecursion P ys
 all_apart_append P [] ys h = (tt, h)
@@ -123,12 +113,8 @@ Ready start w (s ∷ t ∷ ss) = TraitsWithin start w
 -- ---- a batch
 
 sees_own : (s : SystemModel) → Sees (matches_one (system_reads s)) s.slots
-sees_own s = sees_reads (matches_one (system_reads s)) s.slots (λ i m. list_any-append (λ p. pattern_matches p i) (reads s.slots) s.body_reads
-    ∙ ap (λ b. or b (matches_one s.body_reads i)) m)
-  where
-    or : Bool → Bool → Bool
-    or true b = true
-    or false b = b
+sees_own s = sees_reads (matches_one (system_reads s)) s.slots
+    (λ i m. list_any-append (λ p. pattern_matches p i) (reads s.slots) s.body_reads ∙ or_left _ _ m)
 
 -- what is recorded on a world is recorded on one that looks the same
 records_same : (w new : WorldState) (s : SystemModel) (draws : List (List Entity)) (commands : List Command) → IsLawful w → IsLawful new → IsLawfulSystem s
@@ -137,47 +123,48 @@ records_same w new s draws commands l m law p h =
     subst (λ rows. PiecesRecord s (pieces_of rows) draws commands)
     (sym (rows_same (matches_one (system_reads s)) w new s.slots l m law.positive (sees_own s) p)) h
 
+-- without commands nothing happens
+nothing_runs : (w : WorldState) (commands : List Command) (outcomes : FrameOutcomes) (new : WorldState) → commands ≡ [] → Runs w commands outcomes new →
+    (outcomes ≡ []) × (new ≡ w)
+nothing_runs w [] [] new none h = (refl, h)
+nothing_runs w [] (r ∷ rs) new none h = absurd h
+nothing_runs w (c ∷ cs) outcomes new none h = absurd cc
+
 module _ (start : WorldState) where
+  -- each sees the same on both worlds
+  abbrev AllLook : WorldState → WorldState → List SystemModel → Type 0
+  AllLook base cur = AllByRecursion (λ t. LooksSame (matches_one (system_reads t)) base cur)
+
   -- each later system sees the same after the commands of s
   looks_on : (base cur mid : WorldState) (s : SystemModel) (ss : List SystemModel) →
       ((t : SystemModel) → Apart start s t → LooksSame (matches_one (system_reads t)) cur mid)
-      → AllByRecursion (Apart start s) ss → AllByRecursion (λ t. LooksSame (matches_one (system_reads t)) base cur) ss →
-      AllByRecursion (λ t. LooksSame (matches_one (system_reads t)) base mid) ss
+      → AllByRecursion (Apart start s) ss → AllLook base cur ss → AllLook base mid ss
   looks_on base cur mid s [] on a p = tt
   looks_on base cur mid s (t ∷ ts) on a p = (looks_then p.0 (on t a.0), looks_on base cur mid s ts on a.1 p.1)
 
-  looks_later : (base cur mid : WorldState) (s : SystemModel) (ss : List SystemModel) (commands : List Command) (now : FrameOutcomes) → IsLawfulSystem s →
-      (draws : List (List Entity))
-      → Records base s draws commands → Runs cur commands now mid → Ready start cur (s ∷ ss)
-      → AllByRecursion (Apart start s) ss → AllByRecursion (λ t. LooksSame (matches_one (system_reads t)) base cur) ss →
-      AllByRecursion (λ t. LooksSame (matches_one (system_reads t)) base mid) ss
-  looks_later base cur mid s [] commands now law draws rec run ready a p = tt
-  looks_later base cur mid s (t ∷ ts) commands now law draws rec run ready a p =
-      looks_on base cur mid s (t ∷ ts)
-      (λ u apart. runs_same start s apart.plain u apart.tame apart.apart commands cur now mid (records_declared s law base draws commands rec) ready run)
-      a p
+  ready : (w : WorldState) (ss : List SystemModel) → TraitsWithin start w → Ready start w ss
+  ready w [] within = tt
+  ready w (s ∷ []) within = tt
+  ready w (s ∷ t ∷ ss) within = within
 
-  ready_later : (base cur mid : WorldState) (s : SystemModel) (ss : List SystemModel) (commands : List Command) (now : FrameOutcomes) → IsLawfulSystem s →
-      (draws : List (List Entity))
-      → Records base s draws commands → Runs cur commands now mid → Ready start cur (s ∷ ss) → AllByRecursion (Apart start s) ss → Ready start mid ss
-  ready_later base cur mid s [] commands now law draws rec run ready a = tt
-  ready_later base cur mid s (t ∷ []) commands now law draws rec run ready a = tt
-  ready_later base cur mid s (t ∷ u ∷ us) commands now law draws rec run ready a =
-      runs_traits start s (a.0).plain commands cur now mid (records_declared s law base draws commands rec) ready run
+  -- and the batch goes on
+  later : (base cur mid : WorldState) (s : SystemModel) (ss : List SystemModel) (commands : List Command) (now : FrameOutcomes)
+      → AllByRecursion (IsDeclared s.writes s.kills) commands → Runs cur commands now mid → Ready start cur (s ∷ ss) → AllByRecursion (Apart start s) ss
+      → AllLook base cur ss → Ready start mid ss × AllLook base mid ss
+  later base cur mid s [] commands now declared run within a p = (tt, tt)
+  later base cur mid s (t ∷ ts) commands now declared run within a p = (
+    ready mid (t ∷ ts) (runs_traits start s (a.0).plain commands cur now mid declared within run),
+    looks_on base cur mid s (t ∷ ts) (λ u apart. runs_same start s apart.plain u apart.tame apart.apart commands cur now mid declared within run) a p,
+  )
 
   one_by_one : (base cur : WorldState) (ss : List SystemModel) (ds : BatchDraws) (commands : List Command) (outcomes : FrameOutcomes) (new : WorldState)
-      → IsLawful base → IsLawful cur → AllByRecursion IsLawfulSystem ss → Quiet start ss → Ready start cur ss
-      → AllByRecursion (λ t. LooksSame (matches_one (system_reads t)) base cur) ss
+      → IsLawful base → IsLawful cur → AllByRecursion IsLawfulSystem ss → Quiet start ss → Ready start cur ss → AllLook base cur ss
       → BatchRecords base ss ds commands → Runs cur commands outcomes new → OneByOne cur ss ds outcomes new
-  one_by_one base cur [] [] commands outcomes new l m laws quiet ready same rec run = nothing outcomes (subst (λ cs. Runs cur cs outcomes new) rec run)
-    where
-      nothing : (outcomes : FrameOutcomes) → Runs cur [] outcomes new → (outcomes ≡ []) × (new ≡ cur)
-      nothing [] h = (refl, h)
-      nothing (r ∷ rs) h = absurd h
-  one_by_one base cur [] (d ∷ ds) commands outcomes new l m laws quiet ready same rec run = absurd rec
-  one_by_one base cur (s ∷ ss) [] commands outcomes new l m laws quiet ready same rec run = absurd rec
-  one_by_one base cur (s ∷ ss) (d ∷ ds) commands outcomes new l m laws quiet ready same rec run =
-      let split = runs_split rec.0 rec.1 cur new outcomes (subst (λ cs. Runs cur cs outcomes new) rec.4 run) in (
+  one_by_one base cur [] [] commands outcomes new l m laws quiet within same rec run = nothing_runs cur commands outcomes new rec run
+  one_by_one base cur (s ∷ ss) (d ∷ ds) commands outcomes new l m laws quiet within same rec run =
+      let split = runs_split rec.0 rec.1 cur new outcomes (subst (λ cs. Runs cur cs outcomes new) rec.4 run) in
+      let declared = records_declared s laws.0 base d rec.0 rec.2 in
+      let next = later base cur split.mid s ss rec.0 split.now declared split.first_run within quiet.0 same.1 in (
         rec.0,
         split.now,
         split.later,
@@ -185,28 +172,22 @@ module _ (start : WorldState) where
         records_same base cur s d rec.0 l m laws.0 same.0 rec.2,
         split.first_run,
         one_by_one base split.mid ss ds rec.1 split.later new l (runs_lawful rec.0 cur split.now split.mid m split.first_run) laws.1 quiet.1
-            (ready_later base cur split.mid s ss rec.0 split.now laws.0 d rec.2 split.first_run ready quiet.0)
-            (looks_later base cur split.mid s ss rec.0 split.now laws.0 d rec.2 split.first_run ready quiet.0 same.1)
-            rec.3 split.second_run,
+            next.0 next.1 rec.3 split.second_run,
         split.outcomes,
       )
+  one_by_one base cur _ _ commands outcomes new l m laws quiet within same rec run = absurd rec
 
   -- systems that write no traits give none
   batch_traits : (base cur : WorldState) (ss : List SystemModel) (ds : BatchDraws) (commands : List Command) (outcomes : FrameOutcomes) (new : WorldState)
       → AllByRecursion IsLawfulSystem ss → (SomeOf (IsTraitWriter start) ss → ⊥) → TraitsWithin start cur → BatchRecords base ss ds commands →
       Runs cur commands outcomes new → TraitsWithin start new
-  batch_traits base cur [] [] commands outcomes new laws none within rec run = nothing outcomes (subst (λ cs. Runs cur cs outcomes new) rec run)
-    where
-      nothing : (outcomes : FrameOutcomes) → Runs cur [] outcomes new → TraitsWithin start new
-      nothing [] h = subst (TraitsWithin start) (sym h) within
-      nothing (r ∷ rs) h = absurd h
-  batch_traits base cur [] (d ∷ ds) commands outcomes new laws none within rec run = absurd rec
-  batch_traits base cur (s ∷ ss) [] commands outcomes new laws none within rec run = absurd rec
+  batch_traits base cur [] [] commands outcomes new laws none within rec run = rw (nothing_runs cur commands outcomes new rec run).1 within
   batch_traits base cur (s ∷ ss) (d ∷ ds) commands outcomes new laws none within rec run =
       let split = runs_split rec.0 rec.1 cur new outcomes (subst (λ cs. Runs cur cs outcomes new) rec.4 run) in
       batch_traits base split.mid ss ds rec.1 split.later new laws.1 (λ x. none (inr x))
       (runs_traits start s (λ x. none (inl x)) rec.0 cur split.now split.mid (records_declared s laws.0 base d rec.0 rec.2) within split.first_run)
       rec.3 split.second_run
+  batch_traits base cur _ _ commands outcomes new laws none within rec run = absurd rec
 
   ready_batch : (before batch : List SystemModel) (w : WorldState) → AreTogether start before [] batch →
       ((SomeOf (IsTraitWriter start) before → ⊥) → TraitsWithin start w) → Ready start w batch
@@ -216,7 +197,7 @@ module _ (start : WorldState) where
       within (λ x. (h.1).0
       (inl (inr (inr (inl (some_left (IsTraitWriter start) (before ++ s ∷ []) (t ∷ []) (some_left (IsTraitWriter start) before (s ∷ []) x)))))))
 
-  all_look : (w : WorldState) (n : ℕ) (ss : List SystemModel) → AllByRecursion (λ t. LooksSame (matches_one (system_reads t)) w (with_admitted n w)) ss
+  all_look : (w : WorldState) (n : ℕ) (ss : List SystemModel) → AllLook w (with_admitted n w) ss
   all_look w n [] = tt
   all_look w n (s ∷ ss) = (looks_admitted w n (matches_one (system_reads s)), all_look w n ss)
 
@@ -254,24 +235,22 @@ module _ (start : WorldState) where
       ((SomeOf (IsTraitWriter start) before → ⊥) → TraitsWithin start w)
       → InTurn BatchRuns w batches draws outcomes new → InTurn BatchRunsSolo w batches draws outcomes new
   in_turn [] rest before last w [] outcomes new l laws areCut within h = h
-  in_turn [] rest before last w (d ∷ ds) outcomes new l laws areCut within h = absurd h
-  in_turn (b ∷ bs) rest before last w [] outcomes new l laws areCut within h = absurd h
   in_turn (b ∷ bs) rest before last w (d ∷ ds) outcomes new l laws areCut within h =
       let one = one_batch before b w d h.0 h.2 l laws.0 areCut.1 within h.3 in
       (h.0, h.1, h.2, one.solo, in_turn bs rest (before ++ b) b h.2 ds h.1 new one.lawful laws.1 areCut.2 one.within h.4, h.5)
+  in_turn _ rest before last w _ outcomes new l laws areCut within h = absurd h
 
   all_in_turn : (batches rest : List (List SystemModel)) (systems : List SystemModel) (draws : List BatchDraws) (outcomes : FrameOutcomes) (new : WorldState)
       → IsLawful start → AllByRecursion IsLawfulSystem systems → AreBatches start systems (batches ++ rest) →
       InTurn BatchRuns start batches draws outcomes new → InTurn BatchRunsSolo start batches draws outcomes new
   all_in_turn [] rest systems [] outcomes new l laws cuts h = h
-  all_in_turn [] rest systems (d ∷ ds) outcomes new l laws cuts h = absurd h
   all_in_turn ([] ∷ bs) rest systems ds outcomes new l laws cuts h = absurd cuts
-  all_in_turn ((s ∷ b) ∷ bs) rest systems [] outcomes new l laws cuts h = absurd h
   all_in_turn ((s ∷ b) ∷ bs) rest systems (d ∷ ds) outcomes new l laws cuts h =
       let each = all_apart_append (AllByRecursion IsLawfulSystem) ((s ∷ b) ∷ bs) rest
       (all_joined IsLawfulSystem ((s ∷ b) ∷ (bs ++ rest)) (subst (AllByRecursion IsLawfulSystem) cuts.0 laws)) in
       let one = one_batch [] (s ∷ b) start d h.0 h.2 l (each.0).0 cuts.1 (λ none. (refl, λ x j trait k. k)) h.3 in
       (h.0, h.1, h.2, one.solo, in_turn bs rest (s ∷ b) (s ∷ b) h.2 ds h.1 new one.lawful (each.0).1 cuts.2 one.within h.4, h.5)
+  all_in_turn _ rest systems _ outcomes new l laws cuts h = absurd h
 
 -- what holds of all systems holds of them in their order
 all_kept : {A : Type 0} (P : A → Type 0) (q : A → Bool) (xs : List A) → AllByRecursion P xs → AllByRecursion P (filter q xs)
@@ -306,12 +285,11 @@ part_is_solo w systems draws outcomes new l laws h =
 lawful_in_turn : (batches : List (List SystemModel)) (w : WorldState) (draws : List BatchDraws) (outcomes : FrameOutcomes) (new : WorldState) → IsLawful w →
     InTurn BatchRuns w batches draws outcomes new → IsLawful new
 lawful_in_turn [] w [] outcomes new l h = subst IsLawful (sym h.1) l
-lawful_in_turn [] w (d ∷ ds) outcomes new l h = absurd h
-lawful_in_turn (b ∷ bs) w [] outcomes new l h = absurd h
 lawful_in_turn (b ∷ bs) w (d ∷ ds) outcomes new l h =
     let n : ℕ = length (all_drawn d) in
     let run = h.3 in
     lawful_in_turn bs h.2 ds h.1 new (runs_lawful run.1 (with_admitted n w) h.0 h.2 (lawful_admitted w n run.0.1 l) run.3) h.4
+lawful_in_turn _ w _ outcomes new l h = absurd h
 
 pub frames_lawful : FramesKeepLawful
 frames_lawful w systems draws outcomes new l h = lawful_in_turn h.0 w draws outcomes new l h.3

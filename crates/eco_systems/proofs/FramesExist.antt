@@ -1,7 +1,7 @@
 -- A lawful world has a frame of systems whose rows take some draws, or one that stops where the draws would pass the limit.
 use Rattle.std.proofs.Common.{◌≡◌, ℕ, ◌+◌, Bool, true, false, List, [], ◌∷◌, ◌++◌, length, refl, sym, ap, ◌∙◌, subst, ◌⊎◌, inl, inr}
 use Rattle.std.specs.List.{AllByRecursion}
-use Rattle.std.proofs.lemmas.List.{append_assoc}
+use Rattle.std.proofs.lemmas.List.{append-nil}
 use Rattle.eco_ids.specs.declared.entity.Entity.{Entity}
 use Rattle.eco_ids.specs.Births.{may_admit}
 use Rattle.eco_ids.specs.Lawful.{IsLawful}
@@ -19,11 +19,8 @@ use Rattle.eco_systems.specs.Systems.{SystemModel}
 use Rattle.eco_systems.proofs.BatchesExist.{batches_of}
 use Rattle.eco_systems.proofs.Frames.{all_in_order, all_joined, lawful_admitted}
 use Rattle.eco_systems.proofs.FreshDraws.{ascending_are_fresh, fresh_length, fresh_split}
+use Rattle.eco_systems.proofs.Lists.{joined_append}
 use Rattle.eco_systems.proofs.RunsEnd.{runs_end}
-
-joined_append : {A : Type 0} (xss yss : List (List A)) → joined (xss ++ yss) ≡ joined xss ++ joined yss
-joined_append [] yss = refl
-joined_append (xs ∷ xss) yss = ap (λ ys. xs ++ ys) (joined_append xss yss) ∙ sym (append_assoc xs (joined xss) (joined yss))
 
 -- ---- how many draws rows, pieces and systems take, and that they take as many fresh ones
 
@@ -137,56 +134,52 @@ module _ (w : WorldState) where
 
 -- ---- batch after batch
 
-abbrev Whole : WorldState → List (List SystemModel) → Type 0
-Whole w batches = (draws : List BatchDraws) × (outcomes : FrameOutcomes) × (new : WorldState) × InTurn BatchRuns w batches draws outcomes new
+-- the next batch, if there is one, would pass the limit
+abbrev Stops : WorldState → List (List SystemModel) → Type 0
+Stops w [] = Unit {0}
+Stops w (batch ∷ rest) = (next : BatchDraws) × PassesLimit w batch next
 
-record Stop (w : WorldState) (batches : List (List SystemModel)) : Type 0 where
+-- the first batches ran, up to such a stop
+record Ended (w : WorldState) (batches : List (List SystemModel)) : Type 0 where
   done : List (List SystemModel)
-  batch : List SystemModel
   rest : List (List SystemModel)
-  cut : batches ≡ done ++ batch ∷ rest
   draws : List BatchDraws
   outcomes : FrameOutcomes
   new : WorldState
+  cut : batches ≡ done ++ rest
   ran : InTurn BatchRuns w done draws outcomes new
-  next : BatchDraws
-  passes : PassesLimit new batch next
+  stops : Stops new rest
 
-ends_in_turn : (batches : List (List SystemModel)) (w : WorldState) → IsLawful w → AllByRecursion (AllByRecursion TakesSome) batches →
-    Whole w batches ⊎ Stop w batches
-ends_in_turn [] w l some = inl ([], [], w, (refl, refl))
-ends_in_turn (b ∷ bs) w l some = first (batch_ends w b l some.0) (λ new m. ends_in_turn bs new m some.1)
-  where
-    onward : (one : Runs w b) → Whole one.2 bs ⊎ Stop one.2 bs → Whole w (b ∷ bs) ⊎ Stop w (b ∷ bs)
-    onward one (inl x) = inl (one.0 ∷ x.0, one.1 ++ x.1, x.2, (one.1, x.1, one.2, one.3, x.3, refl))
-    onward one (inr x) = inr (record {
-      done = b ∷ x.done;
-      batch = x.batch;
-      rest = x.rest;
-      cut = ap (λ ys. b ∷ ys) x.cut;
-      draws = one.0 ∷ x.draws;
-      outcomes = one.1 ++ x.outcomes;
-      new = x.new;
-      ran = (one.1, x.outcomes, one.2, one.3, x.ran, refl);
-      next = x.next;
-      passes = x.passes;
-    })
+ended_here : (w : WorldState) (batches : List (List SystemModel)) → Stops w batches → Ended w batches
+ended_here w batches stops = record {
+  done = [];
+  rest = batches;
+  draws = [];
+  outcomes = [];
+  new = w;
+  cut = refl;
+  ran = (refl, refl);
+  stops = stops;
+}
 
-    first : Runs w b ⊎ ((draws : BatchDraws) × PassesLimit w b draws) → ((new : WorldState) → IsLawful new → Whole new bs ⊎ Stop new bs) →
-        Whole w (b ∷ bs) ⊎ Stop w (b ∷ bs)
-    first (inl one) later = onward one (later one.2 one.4)
-    first (inr x) later = inr (record {
-      done = [];
-      batch = b;
-      rest = bs;
-      cut = refl;
-      draws = [];
-      outcomes = [];
-      new = w;
-      ran = (refl, refl);
-      next = x.0;
-      passes = x.1;
-    })
+ended_later : (w : WorldState) (b : List SystemModel) (bs : List (List SystemModel)) (one : Runs w b) → Ended one.2 bs → Ended w (b ∷ bs)
+ended_later w b bs one x = record {
+  done = b ∷ x.done;
+  rest = x.rest;
+  draws = one.0 ∷ x.draws;
+  outcomes = one.1 ++ x.outcomes;
+  new = x.new;
+  cut = ap (λ ys. b ∷ ys) x.cut;
+  ran = (one.1, x.outcomes, one.2, one.3, x.ran, refl);
+  stops = x.stops;
+}
+
+ends_in_turn : (batches : List (List SystemModel)) (w : WorldState) → IsLawful w → AllByRecursion (AllByRecursion TakesSome) batches → Ended w batches
+ends_in_turn [] w l some = ended_here w [] tt
+ends_in_turn (b ∷ bs) w l some = elim (batch_ends w b l some.0) as (λ _. Ended w (b ∷ bs)) [
+  | inl one ↦ ended_later w b bs one (ends_in_turn bs one.2 one.4 some.1)
+  | inr stop ↦ ended_here w (b ∷ bs) stop
+]
 
 batches_join : (w : WorldState) (systems : List SystemModel) (batches : List (List SystemModel)) → AreBatches w systems batches → systems ≡ joined batches
 batches_join w systems [] h = h
@@ -194,7 +187,7 @@ batches_join w systems ([] ∷ bs) h = absurd h
 batches_join w systems ((s ∷ b) ∷ bs) h = h.0
 
 pub frames_exist : FramesExist
-frames_exist w systems l some = by (ends_in_turn batches w l each)
+frames_exist w systems l some = (x.draws, x.outcomes, x.new, by x.rest x.cut x.stops)
   where
     batches : List (List SystemModel)
     batches = (batches_of w l (in_order systems)).0
@@ -202,10 +195,11 @@ frames_exist w systems l some = by (ends_in_turn batches w l each)
     are : AreBatches w (in_order systems) batches
     are = (batches_of w l (in_order systems)).1
 
-    each : AllByRecursion (AllByRecursion TakesSome) batches
-    each = all_joined TakesSome batches (subst (AllByRecursion TakesSome) (batches_join w (in_order systems) batches are) (all_in_order TakesSome systems some))
+    x : Ended w batches
+    x = ends_in_turn batches w l
+        (all_joined TakesSome batches (subst (AllByRecursion TakesSome) (batches_join w (in_order systems) batches are) (all_in_order TakesSome systems some)))
 
-    by : Whole w batches ⊎ Stop w batches → (draws : List BatchDraws) × (outcomes : FrameOutcomes) × (new : WorldState)
-        × (IsFrame w systems draws outcomes new ⊎ FrameIsStopped w systems draws outcomes new)
-    by (inl x) = (x.0, x.1, x.2, inl (batches, are, x.3))
-    by (inr x) = (x.draws, x.outcomes, x.new, inr (x.done, x.batch, x.rest, x.next, subst (AreBatches w (in_order systems)) x.cut are, x.ran, x.passes))
+    by : (rest : List (List SystemModel)) → batches ≡ x.done ++ rest → Stops x.new rest →
+        IsFrame w systems x.draws x.outcomes x.new ⊎ FrameIsStopped w systems x.draws x.outcomes x.new
+    by [] cut stops = inl (x.done, subst (AreBatches w (in_order systems)) (cut ∙ append-nil x.done) are, x.ran)
+    by (batch ∷ rest) cut stops = inr (x.done, batch, rest, stops.0, subst (AreBatches w (in_order systems)) cut are, x.ran, stops.1)

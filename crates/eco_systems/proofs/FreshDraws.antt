@@ -1,11 +1,12 @@
 -- Draws that ascend over all pieces, from the number known on, are fresh.
-use Rattle.std.proofs.Common.{◌≡◌, ℕ, zero, suc, ◌+◌, ◌<◌, ◌≤◌, Bool, true, false, not, ◌||◌, List, [], ◌∷◌, ◌++◌, length, refl, sym, ap, ◌∙◌, subst}
+use Rattle.std.proofs.Common.{◌≡◌, ℕ, zero, suc, ◌+◌, ◌<◌, ◌≤◌, not, ◌||◌, List, [], ◌∷◌, ◌++◌, length, refl, sym, ap, ◌∙◌, subst}
 use Rattle.std.proofs.Common.{is_lt, true≢false, Less, IsTrue, inl, inr, arith}
 use Rattle.std.specs.List.{list_all, AllByRecursion}
 use Rattle.std.specs.Cmp.{nat_cmp_is}
 use Rattle.std.specs.Ordering.{nat_cmp, ordering_then}
 use Rattle.std.proofs.lemmas.Bool.{cases_eq}
 use Rattle.std.proofs.lemmas.List.Folds.{list_all-append}
+use Rattle.eco_ids.proofs.Facts.{off}
 use Rattle.eco_ids.specs.declared.entity.Entity.{Entity}
 use Rattle.eco_ids.specs.Layout.{is_distinct}
 use Rattle.eco_ids.specs.Order.{entity_cmp, entity_eq, has_item, is_ascending}
@@ -42,11 +43,9 @@ lists a (suc n) e h =
 
 once : (a n : ℕ) → IsTrue (is_distinct (fresh_from a n))
 once a zero = refl
-once a (suc n) = both _ _ (absent (has_item entity_cmp (fresh_from (a + 1) n) (fresh_entity a)) refl) (once (a + 1) n)
-  where
-    absent : (b : Bool) → has_item entity_cmp (fresh_from (a + 1) n) (fresh_entity a) ≡ b → IsTrue (not b)
-    absent true h = let low = (listed (a + 1) n (fresh_entity a) h).1 in absurd (omega (arith, low))
-    absent false h = refl
+once a (suc n) =
+    both _ _ (ap not (off (has_item entity_cmp (fresh_from (a + 1) n) (fresh_entity a))
+    (λ h. let low = (listed (a + 1) n (fresh_entity a) h).1 in absurd (omega (arith, low))))) (once (a + 1) n)
 
 below : (a b : ℕ) → a < b → IsTrue (is_lt (entity_cmp (fresh_entity a) (fresh_entity b)))
 below a b l = ap (λ r. is_lt (ordering_then r (nat_cmp 0 0))) (sym (nat_cmp_is a b Less l))

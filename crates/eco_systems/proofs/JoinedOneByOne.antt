@@ -1,10 +1,10 @@
 -- Systems that are joined one by one are cut as the batches are.
-use Rattle.std.proofs.Common.{◌≡◌, Bool, true, false, cond, ◌↔◌, inl, inr, List, [], ◌∷◌, ◌++◌, map, refl, sym, ap, ◌∙◌, subst, true≢false, IsTrue, IsFalse}
+use Rattle.std.proofs.Common.{◌≡◌, Bool, true, false, cond, ◌↔◌, List, [], ◌∷◌, ◌++◌, map, refl, sym, ap, ◌∙◌, subst, true≢false, IsTrue, IsFalse}
 use Rattle.std.proofs.Common.{append_assoc}
 use Rattle.std.specs.List.{list_any}
 use Rattle.std.proofs.lemmas.List.{append-nil, map-append}
+use Rattle.eco_systems.proofs.Lists.{some_exact}
 use Rattle.eco_ids.specs.World.{WorldState}
-use Rattle.eco_ids.proofs.Facts.{or_left, or_parts, or_right}
 use Rattle.eco_systems.specs.Batches.{Conflict, AreTogether, AreCut, AreBatches, joined}
 use Rattle.eco_systems.specs.Joining.{batched}
 use Rattle.eco_systems.specs.Laws.{JoiningMakesBatches}
@@ -29,20 +29,9 @@ module _ {A : Type 0} (w : WorldState) (at : A → SystemModel) (clash : List A 
   Conflicts before t s = Conflict w (before ++ at t ∷ []) s (at t)
 
   -- one of the batch clashes with t exactly where its system conflicts with that of t
-  some_clash : (before : List A) (t : A) (batch : List A) → IsTrue (list_any (λ s. clash before s t) batch) →
+  clash_exact : (before : List A) (t : A) (batch : List A) → IsTrue (list_any (λ s. clash before s t) batch) ↔
       SomeOf (Conflicts (map at before) t) (map at batch)
-  some_clash before t [] h = absurd (true≢false (sym h))
-  some_clash before t (s ∷ batch) h =
-      elim (or_parts (clash before s t) (list_any (λ s. clash before s t) batch) h) as (λ _. SomeOf (Conflicts (map at before) t) (map at (s ∷ batch))) [
-        | inl k ↦ inl ((exact before s t).0 k)
-        | inr k ↦ inr (some_clash before t batch k)
-      ]
-
-  clash_some : (before : List A) (t : A) (batch : List A) → SomeOf (Conflicts (map at before) t) (map at batch) →
-      IsTrue (list_any (λ s. clash before s t) batch)
-  clash_some before t [] h = absurd h
-  clash_some before t (s ∷ batch) (inl h) = or_left _ _ ((exact before s t).1 h)
-  clash_some before t (s ∷ batch) (inr h) = or_right (clash before s t) _ (clash_some before t batch h)
+  clash_exact before t batch = some_exact (λ s. clash before s t) (Conflicts (map at before) t) at (λ s. exact before s t) batch
 
   -- the first batch goes on from what was there, and all are cut as they must be
   record Goes (done batch rest : List A) (batches : List (List A)) : Type 0 where
@@ -64,7 +53,7 @@ module _ {A : Type 0} (w : WorldState) (at : A → SystemModel) (clash : List A 
     together = subst (λ b. AreTogether w (map at done) [] (map at b)) (sym (append-nil batch)) together;
     areCut = subst (λ b. AreCut w (map at done ++ map at b) (map at b) (map (map at) later)) (sym (append-nil batch))
         (subst (λ bs. AreCut w (map at done ++ map at batch) (map at batch) (map (map at) bs)) (sym next.is) (
-          subst (λ xs. SomeOf (Conflicts xs t) (map at batch)) (map-append at done batch) (some_clash (done ++ batch) t batch clashes),
+          subst (λ xs. SomeOf (Conflicts xs t) (map at batch)) (map-append at done batch) ((clash_exact (done ++ batch) t batch).0 clashes),
           subst (λ xs. AreTogether w xs [] (map at (t ∷ next.more))) (map-append at done batch) next.together,
           subst (λ xs. AreCut w (xs ++ map at (t ∷ next.more)) (map at (t ∷ next.more)) (map (map at) next.others)) (map-append at done batch) next.areCut,
         ));
@@ -75,7 +64,7 @@ module _ {A : Type 0} (w : WorldState) (at : A → SystemModel) (clash : List A 
       → AreTogether w (map at done) [] (map at (batch ++ t ∷ []))
   together_more done batch t together clashes =
       let none : NoneConflicts w (map at done) (at t) (map at batch) = λ h.
-      true≢false (sym (clash_some (done ++ batch) t batch (subst (λ xs. SomeOf (Conflicts xs t) (map at batch)) (sym (map-append at done batch)) h))
+      true≢false (sym ((clash_exact (done ++ batch) t batch).1 (subst (λ xs. SomeOf (Conflicts xs t) (map at batch)) (sym (map-append at done batch)) h))
       ∙ clashes) in
       subst (AreTogether w (map at done) []) (sym (map-append at batch (t ∷ []))) (together_push w (map at done) (at t) [] (map at batch) together none)
 

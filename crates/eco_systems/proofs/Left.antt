@@ -1,5 +1,5 @@
 -- A frame that stopped has batches left, unless its systems have none.
-use Rattle.std.proofs.Common.{◌≡◌, ℕ, suc, ◌+◌, ◌<◌, ◌⊎◌, inl, inr, List, [], ◌∷◌, ◌++◌, length, refl, ap, ◌∙◌, arith}
+use Rattle.std.proofs.Common.{◌≡◌, ℕ, suc, ◌<◌, ◌⊎◌, inl, inr, List, [], ◌∷◌, ◌++◌, length, refl, ap, ◌∙◌, arith}
 use Rattle.std.proofs.lemmas.List.{append-nil, length-append}
 use Rattle.eco_ids.specs.World.{WorldState}
 use Rattle.eco_systems.specs.Frames.{BatchDraws, InTurn, FrameOutcomes}
@@ -12,9 +12,8 @@ use Rattle.eco_systems.proofs.OneCut.{batches_unique}
 as_long : (Way : WorldState → List SystemModel → BatchDraws → FrameOutcomes → WorldState → Type 0) (done : List (List SystemModel)) (w : WorldState)
     (draws : List BatchDraws) (outcomes : FrameOutcomes) (new : WorldState) → InTurn Way w done draws outcomes new → length draws ≡ length done
 as_long Way [] w [] outcomes new h = refl
-as_long Way [] w (d ∷ ds) outcomes new h = absurd h
-as_long Way (b ∷ bs) w [] outcomes new h = absurd h
 as_long Way (b ∷ bs) w (d ∷ ds) outcomes new h = ap suc (as_long Way bs h.2 ds h.1 new h.4)
+as_long Way _ w _ outcomes new h = absurd h
 
 left : (done rest batches : List (List SystemModel)) (count : ℕ) → batches ≡ done ++ rest → (rest ≡ [] → done ≡ []) → count ≡ length done
     → (batches ≡ []) ⊎ (count < length batches)

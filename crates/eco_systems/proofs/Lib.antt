@@ -1,8 +1,9 @@
 pub mod Answers
 mod BatchesExist
-mod ClosedLists
+pub mod ClosedLists
 mod Covered
 mod Decided
+mod Follows
 mod FrameRows
 mod Frames
 mod FramesExist

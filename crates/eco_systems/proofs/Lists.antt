@@ -1,62 +1,34 @@
 -- Lists that are filtered, searched and gathered.
-use Rattle.std.proofs.Common.{◌≡◌, Bool, true, false, cond, ◌&&◌, ◌||◌, List, [], ◌∷◌, ◌++◌, map, filter, refl, sym, ap, ◌∙◌, is_lt, IsTrue}
+use Rattle.std.proofs.Common.{◌≡◌, Bool, true, false, cond, ◌&&◌, ◌||◌, List, [], ◌∷◌, ◌++◌, map, filter, refl, sym, ap, ◌∙◌, IsTrue}
 use Rattle.std.specs.Prelude.{flat_map}
-use Rattle.std.specs.List.{list_any, list_all, AllByRecursion}
+use Rattle.std.specs.List.{list_any, AllByRecursion}
 use Rattle.std.proofs.lemmas.List.{map-append}
+use Rattle.std.proofs.Common.{true≢false, ◌↔◌}
+use Rattle.std.proofs.lemmas.Bool.Decides.{Decides-or}
 use Rattle.eco_ids.specs.declared.id.Id.{Id}
 use Rattle.eco_ids.specs.Order.{id_cmp, id_eq, has_item, is_ascending}
-use Rattle.eco_ids.proofs.Ascending.{both, first, second}
+use Rattle.eco_ids.proofs.Ascending.{ascending_filter}
 use Rattle.eco_ids.proofs.Facts.{id_eq_is}
 use Rattle.eco_ids.proofs.IdOrder.{id_cmp_total, same_id}
 use Rattle.eco_ids.proofs.Members.{same_members}
+use Rattle.std.proofs.Common.{append_assoc, inl, inr, arith}
+use Rattle.std.proofs.lemmas.Grind.{common_steps}
+use Rattle.eco_systems.specs.Batches.{joined}
+use Rattle.eco_systems.specs.Writes.{SomeOf}
 
 -- a filter by two tests is a filter after a filter
 pub filter_both : {A : Type 0} (q r : A → Bool) (xs : List A) → filter (λ x. q x && r x) xs ≡ filter r (filter q xs)
 filter_both q r [] = refl
-filter_both q r (x ∷ xs) =
-    elim (q x) as (λ b. cond (b && r x) (x ∷ filter (λ y. q y && r y) xs) (filter (λ y. q y && r y) xs) ≡ filter r (cond b (x ∷ filter q xs) (filter q xs))) [
-      | true ↦ λ i. cond (r x) (x ∷ filter_both q r xs i) (filter_both q r xs i)
-      | false ↦ filter_both q r xs
-    ]
+filter_both q r (x ∷ xs) = grind (arith, common_steps, filter_both q r xs)
 
 -- a search that asks for q finds nothing outside of q
 pub any_filtered : {A : Type 0} (a q b : A → Bool) (xs : List A) → list_any (λ x. a x && (q x && b x)) xs ≡ list_any (λ x. a x && (q x && b x)) (filter q xs)
 any_filtered a q b [] = refl
-any_filtered a q b (x ∷ xs) =
-    elim (q x) as (λ c. q x ≡ c → ((a x && (c && b x)) || list_any (λ y. a y && (q y && b y)) xs) ≡ list_any (λ y. a y && (q y && b y))
-    (cond c (x ∷ filter q xs) (filter q xs))) [
-      | true ↦ λ e. λ i. (a x && (sym e i && b x)) || any_filtered a q b xs i
-      | false ↦ λ e. no (a x) ∙ any_filtered a q b xs
-    ] refl
-  where
-    no : (c : Bool) → ((c && false) || list_any (λ y. a y && (q y && b y)) xs) ≡ list_any (λ y. a y && (q y && b y)) xs
-    no true = refl
-    no false = refl
+any_filtered a q b (x ∷ xs) = grind (arith, common_steps, any_filtered a q b xs)
 
 pub any_kept : {A : Type 0} (q : A → Bool) (xs : List A) → list_any q xs ≡ list_any q (filter q xs)
 any_kept q [] = refl
-any_kept q (x ∷ xs) =
-    elim (q x) as (λ c. q x ≡ c → (c || list_any q xs) ≡ list_any q (cond c (x ∷ filter q xs) (filter q xs))) [
-      | true ↦ λ e. ap (λ b. b || list_any q (filter q xs)) (sym e)
-      | false ↦ λ e. any_kept q xs
-    ] refl
-
-pub all_filtered : {A : Type 0} (t q : A → Bool) (xs : List A) → IsTrue (list_all t xs) → IsTrue (list_all t (filter q xs))
-all_filtered t q [] h = refl
-all_filtered t q (x ∷ xs) h =
-    elim (q x) as (λ c. IsTrue (list_all t (cond c (x ∷ filter q xs) (filter q xs)))) [
-      | true ↦ both _ _ (first (t x) _ h) (all_filtered t q xs (second (t x) _ h))
-      | false ↦ all_filtered t q xs (second (t x) _ h)
-    ]
-
-pub ascending_filtered : (q : Id → Bool) (xs : List Id) → IsTrue (is_ascending id_cmp xs) → IsTrue (is_ascending id_cmp (filter q xs))
-ascending_filtered q [] h = refl
-ascending_filtered q (x ∷ xs) h =
-    elim (q x) as (λ c. IsTrue (is_ascending id_cmp (cond c (x ∷ filter q xs) (filter q xs)))) [
-      | true ↦ both _ _ (all_filtered (λ y. is_lt (id_cmp x y)) q xs (first _ _ h))
-          (ascending_filtered q xs (second (list_all (λ y. is_lt (id_cmp x y)) xs) _ h))
-      | false ↦ ascending_filtered q xs (second (list_all (λ y. is_lt (id_cmp x y)) xs) _ h)
-    ]
+any_kept q (x ∷ xs) = grind (arith, common_steps, any_kept q xs)
 
 -- what a filter keeps
 pub item_filtered : (q : Id → Bool) (i : Id) (xs : List Id) → has_item id_cmp (filter q xs) i ≡ (q i && has_item id_cmp xs i)
@@ -82,14 +54,11 @@ item_filtered q i (x ∷ xs) =
 pub same_filtered : (q : Id → Bool) (xs ys : List Id) → IsTrue (is_ascending id_cmp xs) → IsTrue (is_ascending id_cmp ys)
     → ((i : Id) → IsTrue (q i) → has_item id_cmp xs i ≡ has_item id_cmp ys i) → filter q xs ≡ filter q ys
 same_filtered q xs ys up vp is =
-    same_members id_cmp_total same_id (filter q xs) (filter q ys) (ascending_filtered q xs up) (ascending_filtered q ys vp)
+    same_members id_cmp_total same_id (filter q xs) (filter q ys) (ascending_filter id_cmp q xs up) (ascending_filter id_cmp q ys vp)
     (λ i. (λ h. sym (alike i) ∙ h, λ h. alike i ∙ h))
   where
     alike : (i : Id) → has_item id_cmp (filter q xs) i ≡ has_item id_cmp (filter q ys) i
-    alike i =
-        item_filtered q i xs
-        ∙ elim (q i) as (λ c. q i ≡ c → (c && has_item id_cmp xs i) ≡ (c && has_item id_cmp ys i)) [ true ↦ λ e. is i e | false ↦ λ e. refl ] refl
-        ∙ sym (item_filtered q i ys)
+    alike i = grind (arith, common_steps, item_filtered)
 
 -- nothing is gathered where each gives nothing
 pub gathers_nothing : {A B : Type 0} (xs : List A) → flat_map (λ x. let none : List B = [] in none) xs ≡ []
@@ -113,21 +82,34 @@ all_mapped P Q f step (x ∷ xs) p = (step x p.0, all_mapped P Q f step xs p.1)
 
 pub all_pass : {A : Type 0} (q : A → Bool) (xs : List A) → AllByRecursion (λ x. IsTrue (q x)) (filter q xs)
 all_pass q [] = tt
-all_pass q (x ∷ xs) =
-    elim (q x) as (λ c. q x ≡ c → AllByRecursion (λ y. IsTrue (q y)) (cond c (x ∷ filter q xs) (filter q xs))) [
-      | true ↦ λ e. (e, all_pass q xs)
-      | false ↦ λ e. all_pass q xs
-    ] refl
+all_pass q (x ∷ xs) = grind (arith, common_steps, all_pass q xs)
 
 -- maps that agree on each item
 pub same_mapped : {A B : Type 0} (P : A → Type 0) (f g : A → B) → ((x : A) → P x → f x ≡ g x) → (xs : List A) → AllByRecursion P xs → map f xs ≡ map g xs
 same_mapped P f g same [] p = refl
 same_mapped P f g same (x ∷ xs) p = λ i. same x p.0 i ∷ same_mapped P f g same xs p.1 i
 
-pub map_after : {A B C : Type 0} (f : A → B) (g : B → C) (xs : List A) → map g (map f xs) ≡ map (λ x. g (f x)) xs
-map_after f g [] = refl
-map_after f g (x ∷ xs) = ap (λ ys. g (f x) ∷ ys) (map_after f g xs)
-
 pub map_gathered : {A B C : Type 0} (f : A → List B) (g : B → C) (xs : List A) → map g (flat_map f xs) ≡ flat_map (λ x. map g (f x)) xs
 map_gathered f g [] = refl
 map_gathered f g (x ∷ xs) = map-append g (f x) (flat_map f xs) ∙ ap (λ zs. map g (f x) ++ zs) (map_gathered f g xs)
+
+-- lists, one behind another
+pub joined_append : {A : Type 0} (xss yss : List (List A)) → joined (xss ++ yss) ≡ joined xss ++ joined yss
+joined_append [] yss = refl
+joined_append (xs ∷ xss) yss = ap (λ l. xs ++ l) (joined_append xss yss) ∙ sym (append_assoc xs (joined xss) (joined yss))
+
+-- one of some
+pub some_left : {A : Type 0} (P : A → Type 0) (xs ys : List A) → SomeOf P xs → SomeOf P (xs ++ ys)
+some_left P [] ys h = absurd h
+some_left P (x ∷ xs) ys (inl h) = inl h
+some_left P (x ∷ xs) ys (inr h) = inr (some_left P xs ys h)
+
+pub some_right : {A : Type 0} (P : A → Type 0) (xs ys : List A) → SomeOf P ys → SomeOf P (xs ++ ys)
+some_right P [] ys h = h
+some_right P (x ∷ xs) ys h = inr (some_right P xs ys h)
+
+-- a test finds one exactly where one of those that it is exact for is so
+pub some_exact : {A B : Type 0} (test : A → Bool) (P : B → Type 0) (f : A → B) → ((x : A) → IsTrue (test x) ↔ P (f x)) → (xs : List A) →
+    IsTrue (list_any test xs) ↔ SomeOf P (map f xs)
+some_exact test P f exact [] = (λ t. absurd (true≢false (sym t)), λ x. absurd x)
+some_exact test P f exact (x ∷ xs) = Decides-or (test x) (list_any test xs) (exact x) (some_exact test P f exact xs)

@@ -1,9 +1,10 @@
 -- A query's rows with values are the same on worlds that look the same through what it reads.
 use Rattle.std.proofs.Common.{◌≡◌, ℕ, suc, ◌+◌, Bool, true, false, cond, ◌==◌, T, List, [], ◌∷◌, ◌++◌, map, refl, sym, ap, ◌∙◌, subst, ◌⊎◌, inl, inr}
-use Rattle.std.proofs.Common.{Option, Some, None, is_some, option_map, unwrap_or, slice_get, arith, eqb-true, eq-eqb}
+use Rattle.std.proofs.Common.{Option, Some, None, is_some, option_map, unwrap_or, slice_get, arith, eqb-true}
 use Rattle.std.specs.Prelude.{flat_map}
 use Rattle.std.specs.List.{AllByRecursion}
 use Rattle.std.specs.FinMap.Entries.{is_sorted}
+use Rattle.eco_ids.proofs.States.{record_here}
 use Rattle.eco_ids.specs.declared.entity.Entity.{Entity}
 use Rattle.eco_ids.specs.declared.id.Id.{Id}
 use Rattle.eco_ids.specs.declared.value.Value.{Value}
@@ -18,13 +19,11 @@ use Rattle.eco_ids.proofs.Records.{record_apart}
 use Rattle.eco_query.specs.Queries.{QuerySlot, HasPositive}
 use Rattle.eco_systems.specs.Rows.{ValuedRow, entry_value, entry_values, valued, valued_rows, shows_values}
 use Rattle.eco_systems.proofs.Answers.{asked, Sees, Alike, IsRead, choices_alike, choices_read, no_choices}
-use Rattle.eco_systems.proofs.Lists.{same_mapped, map_after, map_gathered}
+use Rattle.std.proofs.lemmas.Simd.{map-map}
+use Rattle.eco_systems.proofs.Lists.{same_mapped, map_gathered}
 use Rattle.eco_systems.proofs.Same.{LooksSame, value_alike}
 
 -- ---- the rows of one entity
-
-record_there : (g : ℕ) (r : Record) → record_in (Some (Living g r)) g ≡ Some r
-record_there g r = ap (λ b. cond b (Some r) None) (eq-eqb g g refl)
 
 abbrev pub row_at : Entity → List (Option Id) → Row
 row_at e entries = record { entity = e; entries = entries }
@@ -110,7 +109,7 @@ module _ (w new : WorldState) (slots : List QuerySlot) (positive : HasPositive s
   lived_rows v k g r at =
       ap (rows_at (rows_with v slots) k) at
       ∙ sym (ap (λ (o : Option Record). rows_with v slots (here k g) (unwrap_or (option_map (λ r. r.held) o) []))
-      (ap (λ s. record_in s g) at ∙ record_there g r))
+      (ap (λ s. record_in s g) at ∙ record_here g r))
 
   -- another generation has none
   other_rows : (v : WorldState) (k f g : ℕ) (r : Record) → slice_get v.indices k ≡ Some (Living f r) → (f ≡ g → ⊥) → own_rows v slots (here k g) ≡ []
@@ -156,26 +155,20 @@ one_more f n (Free g) xs = refl
 one_more f n (Living g r) xs = refl
 
 module _ (f h : Entity → List (Id × Value) → List ValuedRow) where
-  start : (n : ℕ) (ys xs : List (IndexState Record)) → ((k : ℕ) → rows_at h (n + k) (slice_get ys k) ≡ rows_at f (n + k) (slice_get xs k)) →
-      rows_at h n (slice_get ys 0) ≡ rows_at f n (slice_get xs 0)
-  start n ys xs is = let e : n + 0 ≡ n = omega arith in subst (λ m. rows_at h m (slice_get ys 0) ≡ rows_at f m (slice_get xs 0)) e (is 0)
+  -- from n on the same stands at each index
+  abbrev AreSame : ℕ → List (IndexState Record) → List (IndexState Record) → Type 0
+  AreSame n ys xs = (k m : ℕ) → m ≡ n + k → rows_at h m (slice_get ys k) ≡ rows_at f m (slice_get xs k)
 
-  next : (n k : ℕ) (ys xs : List (IndexState Record)) → ((k : ℕ) → rows_at h (n + k) (slice_get ys k) ≡ rows_at f (n + k) (slice_get xs k)) →
-      rows_at h ((n + 1) + k) (slice_get ys (suc k)) ≡ rows_at f ((n + 1) + k) (slice_get xs (suc k))
-  next n k ys xs is = let e : n + suc k ≡ (n + 1) + k = omega arith in subst (λ m. rows_at h m (slice_get ys (suc k)) ≡ rows_at f m (slice_get xs (suc k))) e
-      (is (suc k))
-
-  all_same : (n : ℕ) (ys xs : List (IndexState Record)) → ((k : ℕ) → rows_at h (n + k) (slice_get ys k) ≡ rows_at f (n + k) (slice_get xs k)) →
-      all_rows h n ys ≡ all_rows f n xs
+  all_same : (n : ℕ) (ys xs : List (IndexState Record)) → AreSame n ys xs → all_rows h n ys ≡ all_rows f n xs
   all_same n [] [] is = refl
   all_same n [] (x ∷ xs) is =
-      all_same (n + 1) [] xs (λ k. next n k [] (x ∷ xs) is)
-      ∙ sym (one_more f n x xs ∙ ap (λ rs. rs ++ all_rows f (n + 1) xs) (sym (start n [] (x ∷ xs) is)))
+      all_same (n + 1) [] xs (λ k m e. is (suc k) m (omega (arith, e)))
+      ∙ sym (one_more f n x xs ∙ ap (λ rs. rs ++ all_rows f (n + 1) xs) (sym (is 0 n (omega arith))))
   all_same n (y ∷ ys) [] is =
-      one_more h n y ys ∙ ap (λ rs. rs ++ all_rows h (n + 1) ys) (start n (y ∷ ys) [] is) ∙ all_same (n + 1) ys [] (λ k. next n k (y ∷ ys) [] is)
+      one_more h n y ys ∙ ap (λ rs. rs ++ all_rows h (n + 1) ys) (is 0 n (omega arith)) ∙ all_same (n + 1) ys [] (λ k m e. is (suc k) m (omega (arith, e)))
   all_same n (y ∷ ys) (x ∷ xs) is =
       one_more h n y ys
-      ∙ (λ i. start n (y ∷ ys) (x ∷ xs) is i ++ all_same (n + 1) ys xs (λ k. next n k (y ∷ ys) (x ∷ xs) is) i)
+      ∙ (λ i. is 0 n (omega arith) i ++ all_same (n + 1) ys xs (λ k m e. is (suc k) m (omega (arith, e))) i)
       ∙ sym (one_more f n x xs)
 
 -- ---- the rows of a world, entity by entity
@@ -183,14 +176,14 @@ module _ (f h : Entity → List (Id × Value) → List ValuedRow) where
 gathered : (w : WorldState) (slots : List QuerySlot) → valued_rows w slots ≡ all_rows (rows_with w slots) 0 w.indices
 gathered w slots =
     map_gathered (λ (p : Entity × Record). map (row_at p.0) (choices (keys p.1.held) (asked slots))) (valued w slots) (living w)
-    ∙ λ i. flat_map (λ (p : Entity × Record). map_after (row_at p.0) (valued w slots) (choices (keys p.1.held) (asked slots)) i) (living w)
+    ∙ λ i. flat_map (λ (p : Entity × Record). map-map (valued w slots) (row_at p.0) (choices (keys p.1.held) (asked slots)) i) (living w)
 
 pub rows_same : (seen : Id → Bool) (w new : WorldState) (slots : List QuerySlot) → IsLawful w → IsLawful new → HasPositive slots → Sees seen slots →
     LooksSame seen w new → valued_rows new slots ≡ valued_rows w slots
 rows_same seen w new slots l m positive sees p =
     gathered new slots
     ∙ all_same (rows_with w slots) (rows_with new slots) 0 new.indices w.indices
-    (λ k. let e : 0 + k ≡ k = omega arith in
-    subst (λ n. rows_at (rows_with new slots) n (slice_get new.indices k) ≡ rows_at (rows_with w slots) n (slice_get w.indices k)) (sym e)
+    (λ k j e. let is : k ≡ j = omega (arith, e) in
+    subst (λ n. rows_at (rows_with new slots) n (slice_get new.indices k) ≡ rows_at (rows_with w slots) n (slice_get w.indices k)) is
     (at_index w new slots positive (own_same seen w new p slots sees l m) k))
     ∙ sym (gathered w slots)

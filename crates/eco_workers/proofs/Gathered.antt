@@ -7,6 +7,7 @@ use Rattle.std.proofs.lemmas.List.Elements.{All-append, All-nil, All-cons, All-h
 use Rattle.eco_workers.specs.declared.seat.Seat.{Seat}
 use Rattle.eco_workers.specs.Counting.{total, times, once, all_above, ascends}
 use Rattle.eco_workers.specs.Rounds.{claimed, drawn, is_done, done_count}
+use Rattle.eco_workers.proofs.Popped.{popped_total}
 use Rattle.eco_workers.proofs.Totals.{total-append}
 use Rattle.eco_ids.specs.Run.{Command}
 use Rattle.eco_workers.specs.declared.collected.Collected.{Collected}
@@ -37,6 +38,28 @@ all_ascend (e ∷ log) h =
     let rest = flat_map (λ (e : Entry). e.draws) log in
     All-cons (λ (e : Entry). ascends e.draws ≡ true) e log (front_ascends e.draws rest h) (all_ascend log (back_ascends e.draws rest h))
 
+-- of one seat more, and of the entries of its worker
+module _ (x : ℕ) (log more : List Entry) (seats seats' : List Seat) (s : Seat) (ss : seats' ≡ seats ++ s ∷ []) where
+  pub claims_more : times x (map (λ (e : Entry). e.number) log) ≡ total (λ (s : Seat). times x (claimed s)) seats
+      → claimed s ≡ map (λ (e : Entry). e.number) more
+      → times x (map (λ (e : Entry). e.number) (log ++ more)) ≡ total (λ (s : Seat). times x (claimed s)) seats'
+  claims_more before mine =
+      let number : Entry → ℕ = λ e. e.number in
+      let a = ap (times x) (map-append number log more) in
+      let b = total-append (λ (y : ℕ). cond (eqb y x) 1 0) (map number log) (map number more) in
+      let c = ap (times x) mine in
+      let d = popped_total (λ (s : Seat). times x (claimed s)) seats' seats s ss in
+      omega (arith, a, b, c, d)
+
+  pub draws_more : total (λ (e : Entry). times x e.draws) log ≡ total (λ (s : Seat). times x (drawn s)) seats
+      → drawn s ≡ flat_map (λ (e : Entry). e.draws) more → total (λ (e : Entry). times x e.draws) (log ++ more) ≡ total (λ (s : Seat). times x (drawn s)) seats'
+  draws_more before mine =
+      let a = total-append (λ (e : Entry). times x e.draws) log more in
+      let b = times_flat x more in
+      let c = ap (times x) mine in
+      let d = popped_total (λ (s : Seat). times x (drawn s)) seats' seats s ss in
+      omega (arith, a, b, c, d)
+
 module _ {S : Type 0} (commands : S → List ℕ → List Command) (taken : S → List ℕ → ℕ) (pieces : List S) where
   pub gathered_none : (seats : List Seat) (pushed : List Collected) → seats ≡ [] → pushed ≡ [] → IsGathered commands taken pieces seats pushed []
   gathered_none seats pushed s p =
@@ -56,30 +79,13 @@ module _ {S : Type 0} (commands : S → List ℕ → List Command) (taken : S �
       → IsGathered commands taken pieces seats' pushed' (log ++ more)
   gathered_more seats seats' pushed pushed' mine log more s h l ss ps =
       let number : Entry → ℕ = λ e. e.number in
-      let numbers = map-append number log more in
       let up' : ascends (flat_map (λ (e : Entry). e.draws) more) ≡ true = ap ascends (sym l.draws) ∙ s.draw.ascending in
       let rising = all_ascend more up' in
       record {
         collected = ps ∙ ap (λ k. k ++ mine) h.collected ∙ ap (λ k. map piece_of_entry log ++ k) l.collected ∙ sym (map-append piece_of_entry log more);
         good = All-append (λ (e : Entry). IsGood commands taken pieces e) log more h.good (λ k d lt. (l.good k d lt, rising k d lt));
-        claims = λ x.
-            let a = ap (times x) numbers in
-            let b = total-append (λ (y : ℕ). cond (eqb y x) 1 0) (map number log) (map number more) in
-            let c = ap (times x) l.claims in
-            let f : Seat → ℕ = λ s. times x (claimed s) in
-            let d = ap (total f) ss in
-            let e = total-append f seats (s ∷ []) in
-            let i = h.claims x in
-            omega (arith, a, b, c, d, e, i);
-        draws = λ x.
-            let a = total-append (λ (e : Entry). times x e.draws) log more in
-            let b = times_flat x more in
-            let c = ap (times x) l.draws in
-            let f : Seat → ℕ = λ s. times x (drawn s) in
-            let d = ap (total f) ss in
-            let e = total-append f seats (s ∷ []) in
-            let i = h.draws x in
-            omega (arith, a, b, c, d, e, i);
+        claims = λ x. claims_more x log more seats seats' s ss (h.claims x) l.claims;
+        draws = λ x. draws_more x log more seats seats' s ss (h.draws x) l.draws;
         none = λ len. let n = ap length ss in let m = length-append seats (s ∷ []) in absurd (omega (arith, n, m));
         alone = λ len.
             let n = ap length ss in

@@ -1,13 +1,12 @@
 -- What the seats of all workers have claimed and drawn, shared out among pieces, after one more worker.
-use Rattle.std.proofs.Common.{◌≡◌, ◌⊎◌, inl, inr, ℕ, zero, suc, Bool, true, eqb, cond, List, [], ◌∷◌, ◌++◌, map, sym, ap, ◌∙◌, subst, arith}
+use Rattle.std.proofs.Common.{◌≡◌, ◌⊎◌, inl, inr, ℕ, zero, suc, Bool, true, cond, List, [], ◌∷◌, ◌++◌, map, sym, ap, ◌∙◌, subst, arith}
 use Rattle.std.specs.List.{All, Contains, flat_map}
-use Rattle.std.proofs.lemmas.List.{map-append, map_push}
+use Rattle.std.proofs.lemmas.List.{map_push}
 use Rattle.std.proofs.lemmas.List.Elements.{All-head, All-tail, All-append, All-nil, Contains-append_left, Contains-append_right}
 use Rattle.eco_workers.specs.declared.round.Round.{Round}
 use Rattle.eco_workers.specs.declared.seat.Seat.{Seat}
 use Rattle.eco_workers.specs.Counting.{total, times}
 use Rattle.eco_workers.specs.Rounds.{claimed, drawn, is_dry}
-use Rattle.eco_workers.proofs.Totals.{total-append}
 use Rattle.eco_ids.specs.Run.{Command}
 use Rattle.eco_ids.specs.declared.refusal.Refusal.{Refusal}
 use Rattle.eco_ids.specs.declared.refusal.Refusal.TheVariants.{NoMoreIds}
@@ -18,7 +17,8 @@ use Rattle.eco_workers.specs.declared.end.End.TheVariants.{Done, NoMemory, Refus
 use Rattle.eco_stages.specs.Taking.{IsStopped}
 use Rattle.eco_workers.specs.Entries.{Entry, IsShare, IsShort, IsShared, IsFoundShort}
 use Rattle.eco_workers.specs.Workers.{HasEnded, IsStop, IsWorked, ends_of}
-use Rattle.eco_workers.proofs.Gathered.{times_flat}
+use Rattle.eco_workers.proofs.Gathered.{claims_more, draws_more}
+use Rattle.eco_workers.proofs.Popped.{popped_total}
 use Rattle.eco_workers.proofs.Logs.{fair_log}
 
 -- a member of a list and one more is in the list, or is that one
@@ -76,32 +76,13 @@ module _ {S : Type 0} (commands : S → List ℕ → List Command) (taken : S �
       let mine = shares_of w.end w.seat w.pieces.items ended in
       let log = h.shares in
       let more = mine.shares in
-      let number : Entry → ℕ = λ e. e.number in
-      let dry : Seat → ℕ = λ s. cond (is_dry s) 1 0 in
-      let dries = ap (total dry) ss in
-      let dries' = total-append dry seats (w.seat ∷ []) in
+      let dries = popped_total (λ (s : Seat). cond (is_dry s) 1 0) seats' seats w.seat ss in
       record {
         shares = log ++ more;
         shared = record {
           fair = All-append (λ (e : Entry). IsShare commands taken pieces e) log more h.shared.fair mine.fair;
-          claims = λ x.
-              let a = ap (times x) (map-append number log more) in
-              let b = total-append (λ (y : ℕ). cond (eqb y x) 1 0) (map number log) (map number more) in
-              let c = ap (times x) mine.claims in
-              let f : Seat → ℕ = λ s. times x (claimed s) in
-              let d = ap (total f) ss in
-              let e = total-append f seats (w.seat ∷ []) in
-              let i = h.shared.claims x in
-              omega (arith, a, b, c, d, e, i);
-          draws = λ x.
-              let a = total-append (λ (e : Entry). times x e.draws) log more in
-              let b = times_flat x more in
-              let c = ap (times x) mine.draws in
-              let f : Seat → ℕ = λ s. times x (drawn s) in
-              let d = ap (total f) ss in
-              let e = total-append f seats (w.seat ∷ []) in
-              let i = h.shared.draws x in
-              omega (arith, a, b, c, d, e, i);
+          claims = λ x. claims_more x log more seats seats' w.seat ss (h.shared.claims x) mine.claims;
+          draws = λ x. draws_more x log more seats seats' w.seat ss (h.shared.draws x) mine.draws;
         };
         found = λ n is.
             elim (h.found n is) [
@@ -114,10 +95,10 @@ module _ {S : Type 0} (commands : S → List ℕ → List Command) (taken : S �
                     | inr here ↦
                         (let o = mine.out n here in
                         let weight : Bool → ℕ = λ b. cond b 1 0 in let one = ap weight o.0 in
-                        inr (omega (arith, dries, dries', one), (o.1.0, Contains-append_right log more o.1.0 o.1.1, o.1.2)))
+                        inr (omega (arith, dries, one), (o.1.0, Contains-append_right log more o.1.0 o.1.1, o.1.2)))
                   ])
               | inr before ↦ inr (
-                (let d = before.0 in omega (arith, dries, dries', d)),
+                (let d = before.0 in omega (arith, dries, d)),
                 (before.1.0, Contains-append_left log more before.1.0 before.1.1, before.1.2),
               )
             ];

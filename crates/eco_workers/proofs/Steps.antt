@@ -26,50 +26,44 @@ each_set k word views by w mine others j u e =
 later : (k : Span) (word : ℕ) (v : Share) → ShareFits k word v → ShareFits k (word + 1) v
 later k word v f = record { bound = f.bound; refusals = f.refusals; idle = f.idle; below = all_below_more word (word + 1) v.numbers (omega arith) f.below }
 
+-- the word counts one up, and the seat that did so keeps its parts
+counted_on : (k : Span) (word : ℕ) (views : List Share) (by : ℕ) (v w : Share) → get_elem? views by ≡ some v → IsCounted k word views → w.parts ≡ v.parts
+    → (word - k.bound) + w.refusals ≡ (word + 1 - k.bound) + v.refusals
+    → ((x : ℕ) → once k.base (min word k.bound) x + times x w.numbers ≡ once k.base (min (word + 1) k.bound) x + times x v.numbers)
+    → ShareFits k (word + 1) w → IsCounted k (word + 1) (set views by w)
+counted_on k word views by v w at h kept refusals numbers fits = record {
+  base = let b = h.base in omega arith;
+  room = h.room;
+  parts = let s = total_set (λ (u : Share). u.parts) views by v w at in let p = h.parts in omega arith;
+  refusals = let s = total_set (λ (u : Share). u.refusals) views by v w at in let p = h.refusals in omega arith;
+  numbers = λ x. let s = total_set (λ (u : Share). times x u.numbers) views by v w at in let p = h.numbers x in let n = numbers x in omega arith;
+  each = each_set k (word + 1) views by w fits (λ j u apart e. later k word u (h.each j u e));
+}
+
 pub given : (k : Span) (word : ℕ) (views : List Share) (by : ℕ) (v : Share) → 0 < v.parts → word < k.bound → get_elem? views by ≡ some v
     → IsCounted k word views → IsCounted k (word + 1) (set views by (took v word))
 given k word views by v some_part lt at h =
-    let w : Share = took v word in
-    let mine = h.each by v at in record {
-      base = let b = h.base in omega arith;
-      room = h.room;
-      parts = let s = total_set (λ (u : Share). u.parts) views by v w at in let p = h.parts in omega arith;
-      refusals = let s = total_set (λ (u : Share). u.refusals) views by v w at in let p = h.refusals in omega arith;
-      numbers = λ x.
-          let s = total_set (λ (u : Share). times x u.numbers) views by v w at in
-          let p = h.numbers x in
-          let t = total-append (λ y. cond (eqb y x) 1 0) v.numbers (word ∷ []) in
-          let o = once_more k.base k.bound word x h.base lt in
-          omega arith;
-      each = each_set k (word + 1) views by w
-          record {
-            bound = mine.bound;
-            refusals = mine.refusals;
-            idle = λ e. absurd (omega arith);
-            below = all_below_push word (word + 1) v.numbers (omega arith) mine.below;
-          }
-          (λ j u apart e. later k word u (h.each j u e));
-    }
+    let mine = h.each by v at in
+    counted_on k word views by v (took v word) at h refl (omega arith)
+    (λ x.
+    let t = total-append (λ y. cond (eqb y x) 1 0) v.numbers (word ∷ []) in
+    let o = once_more k.base k.bound word x h.base lt in
+    omega arith)
+    (record {
+      bound = mine.bound;
+      refusals = mine.refusals;
+      idle = λ e. absurd (omega arith);
+      below = all_below_push word (word + 1) v.numbers (omega arith) mine.below;
+    })
 
 pub turned_away : (k : Span) (word : ℕ) (views : List Share) (by : ℕ) (v : Share) → 0 < v.parts → v.refusals ≡ 0 → k.bound ≤ word
     → get_elem? views by ≡ some v → IsCounted k word views → IsCounted k (word + 1) (set views by (refused v))
 turned_away k word views by v some_part none_yet le at h =
-    let w : Share = refused v in
-    let mine = h.each by v at in record {
-      base = let b = h.base in omega arith;
-      room = h.room;
-      parts = let s = total_set (λ (u : Share). u.parts) views by v w at in let p = h.parts in omega arith;
-      refusals = let s = total_set (λ (u : Share). u.refusals) views by v w at in let p = h.refusals in omega arith;
-      numbers = λ x.
-          let s = total_set (λ (u : Share). times x u.numbers) views by v w at in
-          let p = h.numbers x in
-          let e : min (word + 1) k.bound ≡ min word k.bound = omega arith in
-          let o : once k.base (min (word + 1) k.bound) x ≡ once k.base (min word k.bound) x = ap (λ b. once k.base b x) e in
-          omega arith;
-      each = each_set k (word + 1) views by w
-          record { bound = mine.bound; refusals = omega arith; idle = mine.idle; below = all_below_more word (word + 1) v.numbers (omega arith) mine.below }
-          (λ j u apart e. later k word u (h.each j u e));
-    }
+    let mine = h.each by v at in
+    let past : min word k.bound ≡ min (word + 1) k.bound = omega arith in
+    counted_on k word views by v (refused v) at h refl (omega arith)
+    (λ x. ap (λ b. once k.base b x + times x v.numbers) past)
+    (record { bound = mine.bound; refusals = omega arith; idle = mine.idle; below = all_below_more word (word + 1) v.numbers (omega arith) mine.below })
 
 -- a word is never so large that one more wraps
 pub fits_more : (k : Span) (word : ℕ) (views : List Share) → IsCounted k word views → word + 1 < 2 ^ 64

@@ -30,65 +30,31 @@ past_plain n Done h = tt
 past_plain n NoMemory h = tt
 past_plain n (Refused k e) h = absurd h
 
-found_done : (least : Option (ℕ × Refusal)) (full : Bool) (ends : List End) → IsFound least full ends → IsFound least full (ends ++ Done ∷ [])
+pub found_done : (least : Option (ℕ × Refusal)) (full : Bool) (ends : List End) → IsFound least full ends → IsFound least full (ends ++ Done ∷ [])
 found_done (Some p) full ends h = (Contains-append_left ends (Done ∷ []) (Refused p.0 p.1) h.0, All-push (Past p.0) ends Done h.1 tt)
 found_done None full ends h =
     (All-push Plain ends Done h.0 tt, λ is. Contains-append_left ends (Done ∷ []) NoMemory (h.1 is), λ is. All-push Ended ends Done (h.2 is) refl)
 
-found_full : (least : Option (ℕ × Refusal)) (full : Bool) (ends : List End) → IsFound least full ends → IsFound least true (ends ++ NoMemory ∷ [])
+pub found_full : (least : Option (ℕ × Refusal)) (full : Bool) (ends : List End) → IsFound least full ends → IsFound least true (ends ++ NoMemory ∷ [])
 found_full (Some p) full ends h = (Contains-append_left ends (NoMemory ∷ []) (Refused p.0 p.1) h.0, All-push (Past p.0) ends NoMemory h.1 tt)
 found_full None full ends h = (All-push Plain ends NoMemory h.0 tt, λ is. Contains-push ends NoMemory, λ is. absurd (grind arith))
 
-found_first : (full : Bool) (n : ℕ) (e : Refusal) (ends : List End) → IsFound None full ends → IsFound (Some (n, e)) full (ends ++ Refused n e ∷ [])
+pub found_first : (full : Bool) (n : ℕ) (e : Refusal) (ends : List End) → IsFound None full ends → IsFound (Some (n, e)) full (ends ++ Refused n e ∷ [])
 found_first full n e ends h = (
   Contains-push ends (Refused n e),
   All-push (Past n) ends (Refused n e) (All-weaker Plain (Past n) (past_plain n) ends h.0) (omega arith),
 )
 
-found_less : (p : ℕ × Refusal) (full : Bool) (n : ℕ) (e : Refusal) (ends : List End) → n < p.0 → IsFound (Some p) full ends
+pub found_less : (p : ℕ × Refusal) (full : Bool) (n : ℕ) (e : Refusal) (ends : List End) → n < p.0 → IsFound (Some p) full ends
     → IsFound (Some (n, e)) full (ends ++ Refused n e ∷ [])
 found_less p full n e ends lt h = (
   Contains-push ends (Refused n e),
   All-push (Past n) ends (Refused n e) (All-weaker (Past p.0) (Past n) (past_weaker n p.0 (omega arith)) ends h.1) (omega arith),
 )
 
-found_later : (p : ℕ × Refusal) (full : Bool) (n : ℕ) (e : Refusal) (ends : List End) → p.0 ≤ n → IsFound (Some p) full ends
+pub found_later : (p : ℕ × Refusal) (full : Bool) (n : ℕ) (e : Refusal) (ends : List End) → p.0 ≤ n → IsFound (Some p) full ends
     → IsFound (Some p) full (ends ++ Refused n e ∷ [])
 found_later p full n e ends le h = (Contains-append_left ends (Refused n e ∷ []) (Refused p.0 p.1) h.0, All-push (Past p.0) ends (Refused n e) h.1 le)
-
-pub done_at : (least : Option (ℕ × Refusal)) (full : Bool) (end : End) (ends : List End) → end ≡ Done
-    → IsFound least full ends → IsFound least full (ends ++ end ∷ [])
-done_at least full end ends is_end h =
-    let Q : End → Type 0 = λ d. IsFound least full (ends ++ d ∷ []) in
-    subst Q (sym is_end) (found_done least full ends h)
-
-pub full_at : (least : Option (ℕ × Refusal)) (full : Bool) (end : End) (ends : List End) → end ≡ NoMemory
-    → IsFound least full ends → IsFound least true (ends ++ end ∷ [])
-full_at least full end ends is_end h =
-    let Q : End → Type 0 = λ d. IsFound least true (ends ++ d ∷ []) in
-    subst Q (sym is_end) (found_full least full ends h)
-
-pub first_at : (least : Option (ℕ × Refusal)) (full : Bool) (end : End) (ends : List End) (n : ℕ) (e : Refusal)
-    → least ≡ None → end ≡ Refused n e → IsFound least full ends → IsFound (Some (n, e)) full (ends ++ end ∷ [])
-first_at least full end ends n e is is_end h =
-    let P : Option (ℕ × Refusal) → Type 0 = λ o. IsFound o full ends in
-    let Q : End → Type 0 = λ d. IsFound (Some (n, e)) full (ends ++ d ∷ []) in
-    subst Q (sym is_end) (found_first full n e ends (subst P is h))
-
-pub less_at : (least : Option (ℕ × Refusal)) (full : Bool) (end : End) (ends : List End) (p : ℕ × Refusal) (n : ℕ) (e : Refusal)
-    → least ≡ Some p → end ≡ Refused n e → n < p.0 → IsFound least full ends → IsFound (Some (n, e)) full (ends ++ end ∷ [])
-less_at least full end ends p n e is is_end lt h =
-    let P : Option (ℕ × Refusal) → Type 0 = λ o. IsFound o full ends in
-    let Q : End → Type 0 = λ d. IsFound (Some (n, e)) full (ends ++ d ∷ []) in
-    subst Q (sym is_end) (found_less p full n e ends lt (subst P is h))
-
-pub later_at : (least : Option (ℕ × Refusal)) (full : Bool) (end : End) (ends : List End) (p : ℕ × Refusal) (n : ℕ) (e : Refusal)
-    → least ≡ Some p → end ≡ Refused n e → p.0 ≤ n → IsFound least full ends → IsFound least full (ends ++ end ∷ [])
-later_at least full end ends p n e is is_end le h =
-    let P : Option (ℕ × Refusal) → Type 0 = λ o. IsFound o full ends in
-    let R : Option (ℕ × Refusal) → Type 0 = λ o. IsFound o full (ends ++ Refused n e ∷ []) in
-    let Q : End → Type 0 = λ d. IsFound least full (ends ++ d ∷ []) in
-    subst Q (sym is_end) (subst R (sym is) (found_later p full n e ends le (subst P is h)))
 
 all_ended : (worked : List Worked) → All (λ (d : End). d ≡ Done) (ends_of worked) → All (λ (w : Worked). w.end ≡ Done) worked
 all_ended worked h k d lt =
@@ -110,11 +76,7 @@ found_more worked i one least full lt is h =
 
 found_all : (worked : List Worked) (n : ℕ) (least least' : Option (ℕ × Refusal)) (full full' : Bool) → length worked ≤ n → least ≡ least' → full ≡ full'
     → IsFound least full (ends_of (take n worked)) → IsFound least' full' (ends_of worked)
-found_all worked n least least' full full' le is is_full h =
-    let P : List Worked → Type 0 = λ ws. IsFound least full (ends_of ws) in
-    let Q : Option (ℕ × Refusal) → Type 0 = λ o. IsFound o full (ends_of worked) in
-    let R : Bool → Type 0 = λ b. IsFound least' b (ends_of worked) in
-    subst R is_full (subst Q is (subst P (take_all n worked le) h))
+found_all worked n least least' full full' le is is_full h = rw (← is, ← is_full) (rw (take_all n worked le) at h)
 
 pub stop_refused : (worked : List Worked) (n : ℕ) (least : Option (ℕ × Refusal)) (full : Bool) (p : ℕ × Refusal) → length worked ≤ n → least ≡ Some p
     → IsFound least full (ends_of (take n worked)) → IsStop worked p.1

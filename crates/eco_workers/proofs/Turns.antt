@@ -34,11 +34,8 @@ module _ {S : Type 0} (commands : S → List ℕ → List Command) (taken : S �
   stages_push : (ps : List S) (ds : List (List ℕ)) (ss : List (List Command)) (p : S) (d : List ℕ) (s : List Command)
       → AreStages commands taken ps ds ss → IsStage commands taken p d s → AreStages commands taken (ps ++ p ∷ []) (ds ++ d ∷ []) (ss ++ s ∷ [])
   stages_push [] [] [] p d s h one = (one, tt)
-  stages_push [] [] (x ∷ ss) p d s h one = absurd h
-  stages_push [] (y ∷ ds) ss p d s h one = absurd h
-  stages_push (q ∷ ps) [] ss p d s h one = absurd h
-  stages_push (q ∷ ps) (y ∷ ds) [] p d s h one = absurd h
   stages_push (q ∷ ps) (y ∷ ds) (x ∷ ss) p d s h one = (h.0, stages_push ps ds ss p d s h.1 one)
+  stages_push _ _ _ p d s h one = absurd h
 
   abbrev Takes : S → List ℕ → Type 0
   Takes piece d = length d ≤ taken piece d
@@ -51,15 +48,12 @@ module _ {S : Type 0} (commands : S → List ℕ → List Command) (taken : S �
       none : (rest : List S) → AllZip Takes rest (map (λ q. []) rest)
       none [] = tt
       none (q ∷ rest) = (omega arith, none rest)
-  shared [] [] (x ∷ ss) p d rest h one = absurd h
-  shared [] (y ∷ ds) ss p d rest h one = absurd h
-  shared (q ∷ ps) [] ss p d rest h one = absurd h
-  shared (q ∷ ps) (y ∷ ds) [] p d rest h one = absurd h
   shared (q ∷ ps) (y ∷ ds) (x ∷ ss) p d rest h one =
       let r = shared ps ds ss p d rest h.1 one in
       let e = h.0.0 in
       let long = r.1 in
       ((omega (arith, e), r.0), omega (arith, long))
+  shared _ _ _ p d rest h one = absurd h
 
   nothing : (rest : List S) → concat (map (λ q. []) rest) ≡ []
   nothing [] = refl

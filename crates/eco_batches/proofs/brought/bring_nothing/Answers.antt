@@ -2,15 +2,15 @@ use Rattle.std.proofs.Common.{subst, sym, true≢false, ◌∙◌}
 use Rattle.std.specs.List.{AllByRecursion}
 use Rattle.std.proofs.lemmas.List.{take_all, take_more}
 use Rattle.eco_batches.proofs.Brings.{BringsNothing, closed_alone, nothing_by}
-use Rattle.eco_batches.proofs.Members.{all_push}
+use Rattle.eco_systems.proofs.Lists.{all_append}
 use Rattle.eco_batches.proofs.brought.bring_nothing.Goals as goal
 
 pub loop-pattern-preserved : goal.loop-pattern-preserved
 loop-pattern-preserved g c =
     let w = g.H.Holdings.world c.args.holdings.now in
     subst (AllByRecursion (BringsNothing w)) (sym (take_more c.args.patterns.now c.loop-pattern.pattern-index _ c.loop-pattern-test.true))
-    (all_push (BringsNothing w) _ _ c.loop-pattern.invariant
-    (nothing_by w _ c.ids_of_head.result.now (sym c.any_with.ensures ∙ c.if-any_with.false) c.ids_of_head.ensures))
+    (all_append (BringsNothing w) _ _ c.loop-pattern.invariant
+    (nothing_by w _ c.ids_of_head.result.now (sym c.any_with.ensures ∙ c.if-any_with.false) c.ids_of_head.ensures, tt))
 
 pub returns-then-any_with : goal.returns-then-any_with
 returns-then-any_with g c = λ t. absurd (true≢false (sym t))

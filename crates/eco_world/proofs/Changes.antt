@@ -22,10 +22,11 @@ use Rattle.eco_traits.specs.Target.{type_of_entity, type_of_record}
 use Rattle.eco_world.specs.Types.{type_of}
 use Rattle.eco_world.proofs.Held.{Held, keys, none_written, retyped_without, written_is}
 
--- what holds of either state that a call may leave holds of the one that it left
-pub by_result : {A B S : Type 0} (P : S → Type 0) (r : Result A B) (old new x : S) → OnOk r (new ≡ x) → OnErr r (new ≡ old) → P x → P old → P new
-by_result P (Ok a) old new x ok err done undone = subst P (sym ok) done
-by_result P (Err b) old new x ok err done undone = subst P (sym err) undone
+-- what holds of either state that a call may leave, as it is seen, holds of the one that it left
+pub by_result : {A B S X : Type 0} (P : X → Type 0) (seen : S → X) (r : Result A B) (old new : S) (x : X) → OnOk r (seen new ≡ x) → OnErr r (new ≡ old) →
+    P x → P (seen old) → P (seen new)
+by_result P seen (Ok a) old new x ok err done undone = subst P (sym ok) done
+by_result P seen (Err b) old new x ok err done undone = subst (λ s. P (seen s)) (sym err) undone
 
 module _ (w : WorldState) (e : Entity) where
   -- changes that do the same to the entity's record

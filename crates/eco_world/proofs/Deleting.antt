@@ -24,15 +24,6 @@ use Rattle.eco_ids.proofs.Overlaps.{entity_eq_is, entity_eq_itself}
 use Rattle.eco_ids.proofs.Passing.{own_from_passed, passed_from_own}
 use Rattle.eco_world.specs.Queries.{holders}
 
--- a call that meets a step which keeps the world lawful does so
-pub met_lawful : (Step : WorldState → Result (Unit {0}) Refusal → WorldState → Type 0) (may : WorldState → Bool) (w new : WorldState)
-    (r : Result (Unit {0}) Refusal) → Keeps Step → IsLawful w → Meets (Step w) (may w) w r new → IsLawful new
-met_lawful Step may w new r keeps was =
-    elim (is_out_of_memory r) as (λ b. MatchBool b (IsTrue (may w) × (new ≡ w)) (Step w r new) → IsLawful new) [
-      | true ↦ λ m. subst IsLawful (sym m.1) was
-      | false ↦ keeps w r new was
-    ]
-
 -- the same roots in other words take the same
 doomed_alike : (w : WorldState) (P Q : Entity → Type 0) (members : List Entity) → ((e : Entity) → P e ↔ Q e) → IsDoomed w P members → IsDoomed w Q members
 doomed_alike w P Q members same d = record {

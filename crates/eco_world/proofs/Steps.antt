@@ -12,6 +12,7 @@ use Rattle.eco_ids.specs.Names.{is_proper, is_same_name, is_taken}
 use Rattle.eco_ids.specs.Outcome.{Meets, Answers, Refuses, first_refusal, is_out_of_memory}
 use Rattle.eco_ids.specs.Step.{Renames, may_rename, own_name, with_name}
 use Rattle.eco_ids.specs.World.{WorldState, Record, entities, OnEntities, is_alive}
+use Rattle.eco_ids.proofs.Admits.{meets_lawful}
 use Rattle.eco_world.specs.Actor.{IsUnfit}
 use Rattle.eco_ids.specs.Terms.{QueryTerm}
 use Rattle.eco_world.specs.Worlds.{world_with}
@@ -28,15 +29,10 @@ module _ {A : Type 0} (edition : Edition) (qs : List (List QueryTerm)) (Step : I
         | false ↦ λ made. (new, made, refl)
       ]
 
-  -- where the step keeps the world lawful, the call does
-  pub lawful_lifted : IsLawful (world_with edition v qs) →
-      (OnEntities Step (world_with edition v qs) r (world_with edition new qs) → IsLawful (world_with edition new qs)) →
-      Meets (Step v) may v r new → IsLawful (world_with edition new qs)
-  lawful_lifted was keeps =
-      elim (is_out_of_memory r) as (λ b. MatchBool b (IsTrue may × (new ≡ v)) (Step v r new) → IsLawful (world_with edition new qs)) [
-        | true ↦ λ m. subst (λ x. IsLawful (world_with edition x qs)) (sym m.1) was
-        | false ↦ λ made. keeps (new, made, refl)
-      ]
+-- a call that meets a step which keeps the world lawful does so, as the store is seen
+pub met_lawful : {A : Type 0} (Step : Result A Refusal → WorldState → Type 0) (may : Bool) (seen w new : WorldState) (r : Result A Refusal) → seen ≡ w →
+    IsLawful seen → (IsLawful w → Step r new → IsLawful new) → Meets Step may w r new → IsLawful new
+met_lawful Step may seen w new r is was keeps = let lawful = subst IsLawful is was in meets_lawful Step may w r new lawful (keeps lawful)
 
 module _ (w : WorldState) (e : Entity) (reserved : Bool) (why : Refusal) (unfit : IsUnfit w e reserved why) where
   -- what is refused for who acts is met by each step that refuses that

@@ -23,6 +23,7 @@ use Rattle.eco_ids.proofs.Meaning.{least}
 use Rattle.eco_ids.proofs.Overlaps.{entity_eq_is, entity_eq_itself}
 use Rattle.eco_ids.proofs.Passing.{own_from_passed, passed_from_own}
 use Rattle.eco_world.specs.Queries.{holders}
+use Rattle.eco_world.proofs.Steps.{meets_as}
 
 -- the same roots in other words take the same
 doomed_alike : (w : WorldState) (P Q : Entity → Type 0) (members : List Entity) → ((e : Entity) → P e ↔ Q e) → IsDoomed w P members → IsDoomed w Q members
@@ -37,19 +38,12 @@ doomed_alike w P Q members same d = record {
 module _ (w new : WorldState) (r : Result (Unit {0}) Refusal) (roots : List Entity) (IsRoot : Entity → Type 0)
     (same : (e : Entity) → IsTrue (has_item entity_cmp roots e) ↔ IsRoot e) (alive : (e : Entity) → IsRoot e → IsTrue (is_alive w e))
     (ends : (members : List Entity) → IsDoomed w (λ e. IsTrue (has_item entity_cmp roots e)) members → Meets (Ends w members) true w r new) where
-  ended : (members : List Entity) → IsDoomed w IsRoot members → Meets (Ends w members) true w r new → Meets (Deletes w IsRoot) true w r new
-  ended members d =
-      elim (is_out_of_memory r) as (λ b. MatchBool b (IsTrue true × (new ≡ w)) (Ends w members r new) →
-      MatchBool b (IsTrue true × (new ≡ w)) (Deletes w IsRoot r new)) [
-        | true ↦ λ wanting. wanting
-        | false ↦ λ end. (members, d, end)
-      ]
-
   deleted : Meets (Deletes w IsRoot) true w r new
   deleted =
       let known = deletes_end w (λ e. IsTrue (has_item entity_cmp roots e)) (λ e. decide_bool (has_item entity_cmp roots e)) (λ e h. alive e ((same e).0 h)) in
       let members = known.2.0 in
-      ended members (doomed_alike w _ IsRoot members same known.2.1) (ends members known.2.1)
+      meets_as (Ends w members) (Deletes w IsRoot) true true w new w new r (λ wants is. (wants, is))
+      (λ end. (members, doomed_alike w _ IsRoot members same known.2.1, end)) (ends members known.2.1)
 
 -- e alone
 pub only : (e x : Entity) → IsTrue (has_item entity_cmp (e ∷ []) x) ↔ (x ≡ e)

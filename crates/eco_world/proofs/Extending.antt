@@ -29,7 +29,7 @@ use Rattle.eco_ids.proofs.Exact.{keys_find}
 use Rattle.eco_ids.proofs.Grown.{grown_at}
 use Rattle.eco_ids.proofs.Steps.{has_itself}
 use Rattle.eco_ids.proofs.Ascending.{second}
-use Rattle.eco_ids.proofs.Facts.{not_true}
+use Rattle.eco_ids.proofs.Facts.{not_ok, not_true}
 use Rattle.eco_store.specs.Store.{with_type}
 use Rattle.eco_traits.specs.declared.target.Target.{Target}
 use Rattle.eco_traits.specs.declared.target.Target.TheVariants.{Instead, With}
@@ -41,6 +41,7 @@ use Rattle.eco_world.proofs.Changes.{held_at, sorted_at}
 use Rattle.eco_world.specs.Losses.{IsAlone}
 use Rattle.eco_world.proofs.Held.{retyped_is}
 use Rattle.eco_world.proofs.Mirroring.{alone_typed}
+use Rattle.eco_world.proofs.Steps.{meets_as}
 
 -- ---- a closure more
 
@@ -70,10 +71,13 @@ module _ (w : WorldState) (e : Entity) (i : Id) (alive : is_alive w e ≡ true) 
 
   module _ (absent : has w e i ≡ false) where
     -- an add is the extension of what the entity has
+    pub adds_are : (r : Result (Unit {0}) Refusal) (new : WorldState) → Adds w e i r new ≡ Extends w e i unchanged r new
+    adds_are r new =
+        ap (λ o. MatchOption o (MatchBool (has w e i) (Answers tt w r new) (Extends w e i unchanged r new)) (λ why. Refuses why w r new)) fit
+        ∙ ap (λ b. MatchBool b (Answers tt w r new) (Extends w e i unchanged r new)) absent
+
     pub adds_by : (r : Result (Unit {0}) Refusal) (new : WorldState) → Extends w e i unchanged r new → Adds w e i r new
-    adds_by r new x =
-        subst (λ o. MatchOption o (MatchBool (has w e i) (Answers tt w r new) (Extends w e i unchanged r new)) (λ why. Refuses why w r new)) (sym fit)
-        (subst (λ b. MatchBool b (Answers tt w r new) (Extends w e i unchanged r new)) (sym absent) x)
+    adds_by r new = subst (λ X. X) (sym (adds_are r new))
 
     module _ (s : List Id) (d : Record) (at : record_of w e ≡ Some d) (lawful : IsLawful w) (keeps : Keeps (λ v. Adds v e i)) (exactly : AddsExactly)
         (closure : IsClosure w i s) (judges : Judges w e s (grown w e i s) None) where
@@ -119,12 +123,6 @@ record IsFound (w : WorldState) (e : Entity) (i : Id) (ids : List Id) : Type 0 w
 same_ok : (x y : List Id) → (let r : Result (List Id) Refusal = Ok x in r ≡ Ok y) → x ≡ y
 same_ok x y h = cc
 
-not_refused : (x : List Id) (why : Refusal) → Ok x ≡ Err why → ⊥
-not_refused x why h = cc
-
-is_done : (why : Refusal) → (let r : Result (Unit {0}) Refusal = Ok tt in r ≡ Err why) → ⊥
-is_done why h = cc
-
 found : (w : WorldState) (e : Entity) (i : Id) (ids : List Id) → names_living w i ≡ true → has w e i ≡ false → FindsType w e i (Ok ids) → IsFound w e i ids
 found w e i ids living absent finds = by_verdict extends.0 extends.1 extends.2 extends.3 extends.4
   where
@@ -137,7 +135,7 @@ found w e i ids living absent finds = by_verdict extends.0 extends.1 extends.2 e
         (λ why. Ok ids ≡ Err why) →
         IsFound w e i ids
     by_verdict s closure None judges m = record { closure = s; is_closure = closure; judges = judges; of = m.0; at = m.1; ids_are = same_ok ids _ m.2 }
-    by_verdict s closure (Some why) judges m = absurd (not_refused ids why m)
+    by_verdict s closure (Some why) judges m = absurd (not_ok m)
 
 -- what stands against the type stands against the extension
 pub opposed : (w : WorldState) (e : Entity) (i : Id) (why : Refusal) → names_living w i ≡ true → has w e i ≡ false → FindsType w e i (Err why) →
@@ -154,12 +152,9 @@ opposed w e i why living absent =
           by_verdict x.0 x.1 x.2 x.3 x.4
     ]
   where
-    not_found : (ids : List Id) → (let r : Result (List Id) Refusal = Err why in r ≡ Ok ids) → ⊥
-    not_found ids h = cc
-
     by_verdict : (s : List Id) → IsClosure w i s → (v : Option Refusal) → Judges w e s (grown w e i s) v →
         MatchOption v (IsTypeAfter w e s (Err why)) (λ y. (let r : Result (List Id) Refusal = Err why in r ≡ Err y)) → Extends w e i unchanged (Err why) w
-    by_verdict s closure None judges m = absurd (not_found _ m.2)
+    by_verdict s closure None judges m = absurd (not_ok (sym m.2))
     by_verdict s closure (Some y) judges m = (s, closure, Some y, judges, (let same : why ≡ y = cc in ap Err same, refl))
 
 -- what was found leads to a type only where each entity in the id lives
@@ -168,7 +163,7 @@ names_live w e i ids = by (names_living w i)
   where
     by : (b : Bool) → MatchBool b (MatchBool (has w e i) (IsOwnType w e (Ok ids)) (ExtendsTo w e i (Ok ids))) (Ok ids ≡ Err DeadId) → b ≡ true
     by true m = refl
-    by false m = absurd (not_refused ids DeadId m)
+    by false m = absurd (not_ok m)
 
 -- ---- the whole add
 
@@ -181,27 +176,14 @@ module _ (w : WorldState) (e : Entity) (i : Id) (alive : is_alive w e ≡ true) 
     -- where it isn't, an add is an extension
     pub adds_extends : (r : Result (Unit {0}) Refusal) (new : WorldState) → Meets (Extends w e i unchanged) true w r new →
         Meets (Adds w e i) (step.may_add w e i) w r new
-    adds_extends r new =
-        elim (is_out_of_memory r) as (λ b. MatchBool b (IsTrue true × (new ≡ w)) (Extends w e i unchanged r new) →
-        MatchBool b (IsTrue (step.may_add w e i) × (new ≡ w)) (Adds w e i r new)) [
-          | true ↦ λ m. (ap (λ o. not (is_some o) && not (has w e i)) (fit w e i alive free living) ∙ ap not absent, m.1)
-          | false ↦ λ x. adds_by w e i alive free living absent r new x
-        ]
+    adds_extends r new = meets_as (Extends w e i unchanged) (Adds w e i) true (step.may_add w e i) w new w new r
+        (λ _ same. (ap (λ o. not (is_some o) && not (has w e i)) (fit w e i alive free living) ∙ ap not absent, same))
+        (adds_by w e i alive free living absent r new)
 
     pub extends_adds : (r : Result (Unit {0}) Refusal) (new : WorldState) → Meets (Adds w e i) (step.may_add w e i) w r new →
         Meets (Extends w e i unchanged) true w r new
-    extends_adds r new =
-        elim (is_out_of_memory r) as (λ b. MatchBool b (IsTrue (step.may_add w e i) × (new ≡ w)) (Adds w e i r new) →
-        MatchBool b (IsTrue true × (new ≡ w)) (Extends w e i unchanged r new)) [
-          | true ↦ λ m. (refl, m.1)
-          | false ↦ λ x. extends_by r new x
-        ]
-      where
-        extends_by : (r : Result (Unit {0}) Refusal) (new : WorldState) → Adds w e i r new → Extends w e i unchanged r new
-        extends_by r new x =
-            subst (λ b. MatchBool b (Answers tt w r new) (Extends w e i unchanged r new)) absent
-            (subst (λ o. MatchOption o (MatchBool (has w e i) (Answers tt w r new) (Extends w e i unchanged r new)) (λ why. Refuses why w r new))
-            (fit w e i alive free living) x)
+    extends_adds r new = meets_as (Adds w e i) (Extends w e i unchanged) (step.may_add w e i) true w new w new r (λ _ same. (refl, same))
+        (subst (λ X. X) (adds_are w e i alive free living absent r new))
 
   -- what stands against the type stands against the add
   pub opposed_add : (why : Refusal) → FindsType w e i (Err why) → (IsTrue (is_out_of_memory {A = Unit {0}} (Err why)) → has w e i ≡ false) →
@@ -233,11 +215,8 @@ module _ (w : WorldState) (e : Entity) (i : Id) (alive : is_alive w e ≡ true) 
                 subst (λ b. MatchBool b (IsOwnType w e (Err why)) (ExtendsTo w e i (Err why))) has_it
                 (subst (λ b. MatchBool b (MatchBool (has w e i) (IsOwnType w e (Err why)) (ExtendsTo w e i (Err why)))
                 (let r : Result (List Id) Refusal = Err why in r ≡ Err DeadId)) living m) in
-                absurd (not_found _ own.2)
+                absurd (not_ok (sym own.2))
           ]) memory finds
-        where
-          not_found : (ids : List Id) → (let r : Result (List Id) Refusal = Err why in r ≡ Ok ids) → ⊥
-          not_found ids h = cc
 
       by_has : names_living w i ≡ true → (b : Bool) → has w e i ≡ b → Meets (Adds w e i) (step.may_add w e i) w (Err why) w
       by_has living true h = there living h
@@ -320,12 +299,14 @@ module _ (w : WorldState) (e : Entity) (i : Id) (v : Value) (may_set : MaySet w 
 
   -- where the id is there
   sets_there : has w e i ≡ true → Sets w e i v (Ok tt) (changed w e (with_value i v))
-  sets_there there =
-      subst (λ o. MatchOption o
-      (MatchBool (has w e i) (Answers tt (changed w e (with_value i v)) (Ok tt) (changed w e (with_value i v)))
-      (Extends w e i (with_value i v) (Ok tt) (changed w e (with_value i v)))) (λ why. Refuses why w (Ok tt) (changed w e (with_value i v)))) (sym fit_set)
-      (subst (λ b. MatchBool b (Answers tt (changed w e (with_value i v)) (Ok tt) (changed w e (with_value i v)))
-      (Extends w e i (with_value i v) (Ok tt) (changed w e (with_value i v)))) (sym there) (refl, refl))
+  sets_there there = rw (may_set.alive, may_set.free, may_set.living, may_set.data_id, may_set.narrow, there) (refl, refl)
+
+  -- where it isn't, a set is an extension
+  sets_by : has w e i ≡ false → (r : Result (Unit {0}) Refusal) (new : WorldState) → Extends w e i (with_value i v) r new → Sets w e i v r new
+  sets_by absent r new x =
+      subst (λ o. MatchOption o (MatchBool (has w e i) (Answers tt (changed w e (with_value i v)) r new) (Extends w e i (with_value i v) r new))
+      (λ why. Refuses why w r new)) (sym fit_set)
+      (subst (λ b. MatchBool b (Answers tt (changed w e (with_value i v)) r new) (Extends w e i (with_value i v) r new)) (sym absent) x)
 
   pub lawful_there : has w e i ≡ true → IsLawful (changed w e (with_value i v))
   lawful_there there = keeps w (Ok tt) (changed w e (with_value i v)) lawful (sets_there there)
@@ -333,23 +314,14 @@ module _ (w : WorldState) (e : Entity) (i : Id) (v : Value) (may_set : MaySet w 
   -- what stands against the closure stands against the set, and where memory is wanting neither changes anything
   pub refused_after : has w e i ≡ false → (why : Refusal) (new : WorldState) → Meets (Extends w e i unchanged) true w (Err why) new
       → Meets (Sets w e i v) (step.may_set w e i v) w (Err why) new
-  refused_after absent why new =
-      elim (is_out_of_memory {A = Unit {0}} (Err why)) as (λ b.
-      MatchBool b (IsTrue true × (new ≡ w)) (Extends w e i unchanged (Err why) new)
-      → MatchBool b (IsTrue (step.may_set w e i v) × (new ≡ w)) (Sets w e i v (Err why) new)) [
-        | true ↦ λ m. (ap (λ o. not (is_some o) && not (has w e i)) fit_set ∙ ap not absent, m.1)
-        | false ↦ λ x.
-            subst (λ o. MatchOption o
-            (MatchBool (has w e i) (Answers tt (changed w e (with_value i v)) (Err why) new) (Extends w e i (with_value i v) (Err why) new))
-            (λ y. Refuses {A = Unit {0}} y w (Err why) new)) (sym fit_set)
-            (subst (λ b. MatchBool b (Answers tt (changed w e (with_value i v)) (Err why) new) (Extends w e i (with_value i v) (Err why) new)) (sym absent)
-            (refused x.0 x.1 x.2 x.3 x.4))
-      ]
+  refused_after absent why new = meets_as (Extends w e i unchanged) (Sets w e i v) true (step.may_set w e i v) w new w new (Err why)
+      (λ _ same. (ap (λ o. not (is_some o) && not (has w e i)) fit_set ∙ ap not absent, same))
+      (λ x. sets_by absent (Err why) new (refused x.0 x.1 x.2 x.3 x.4))
     where
       refused : (s : List Id) → IsClosure w i s → (verdict : Option Refusal) → Judges w e s (grown w e i s) verdict →
           MatchOption verdict (Answers {A = Unit {0}} tt (changed (grown w e i s) e unchanged) (Err why) new) (λ y. Refuses {A = Unit {0}} y w (Err why) new) →
           Extends w e i (with_value i v) (Err why) new
-      refused s closure None judges m = absurd (is_done why (sym m.0))
+      refused s closure None judges m = absurd (not_ok (sym m.0))
       refused s closure (Some y) judges m = (s, closure, Some y, judges, m)
 
   -- after the id was added
@@ -364,24 +336,14 @@ module _ (w : WorldState) (e : Entity) (i : Id) (v : Value) (may_set : MaySet w 
         lives None h = absurd (true≢false (sym h))
         lives (Some d) h = refl
 
-    here : (d : Record) × (record_of w e ≡ Some d)
-    here = some_of (record_of w e) may_set.alive
-
     both_done : (s : List Id) → IsClosure w i s → (verdict : Option Refusal) → Judges w e s (grown w e i s) verdict →
         MatchOption verdict (Answers {A = Unit {0}} tt (changed (grown w e i s) e unchanged) (Ok tt) mid) (λ why. Refuses {A = Unit {0}} why w (Ok tt) mid) →
         Extends w e i (with_value i v) (Ok tt) (changed mid e (with_value i v))
     both_done s closure None judges m = (s, closure, None, judges, (refl, ap (λ x. changed x e (with_value i v)) (m.1 ∙ changed_unchanged (grown w e i s) e)))
-    both_done s closure (Some why) judges m = absurd (is_done why m.0)
+    both_done s closure (Some why) judges m = absurd (not_ok m.0)
 
     pub sets_after : Sets w e i v (Ok tt) (changed mid e (with_value i v))
-    sets_after =
-        subst (λ o. MatchOption o
-        (MatchBool (has w e i) (Answers tt (changed w e (with_value i v)) (Ok tt) (changed mid e (with_value i v)))
-        (Extends w e i (with_value i v) (Ok tt) (changed mid e (with_value i v)))) (λ why. Refuses why w (Ok tt) (changed mid e (with_value i v))))
-        (sym fit_set)
-        (subst (λ b. MatchBool b (Answers tt (changed w e (with_value i v)) (Ok tt) (changed mid e (with_value i v)))
-        (Extends w e i (with_value i v) (Ok tt) (changed mid e (with_value i v)))) (sym absent)
-        (both_done extends.0 extends.1 extends.2 extends.3 extends.4))
+    sets_after = sets_by absent (Ok tt) (changed mid e (with_value i v)) (both_done extends.0 extends.1 extends.2 extends.3 extends.4)
 
     pub lawful_after : IsLawful (changed mid e (with_value i v))
     lawful_after = keeps w (Ok tt) (changed mid e (with_value i v)) lawful sets_after

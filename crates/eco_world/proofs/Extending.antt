@@ -235,41 +235,6 @@ pub record IsGrown (w : WorldState) (e : Entity) (i : Id) (new : WorldState) : T
   pub lawful : IsLawful new
   pub adds : Adds w e i (Ok tt) new
 
-pub found_both : (w : WorldState) (e : Entity) (i : Id) (ids : List Id) → is_alive w e ≡ true → is_reserved w e i ≡ false → IsLawful w →
-    Keeps (λ v. Adds v e i) → AddsExactly → FindsType w e i (Ok ids) → has w e i ≡ false → IsGrown w e i (typed_both w e i ids)
-found_both w e i ids alive free lawful keeps exactly finds lacks =
-    let living = names_live w e i ids finds in
-    let f = found w e i ids living lacks finds in
-    let x = extended_typed w e i alive free living lacks f.closure f.of f.at lawful keeps exactly f.is_closure f.judges in
-    let same : typed_both w e i ids ≡ grown w e i f.closure = ap (typed_both w e i) f.ids_are ∙ x.typed in
-    record {
-      lawful = subst IsLawful (sym same) x.lawful;
-      adds = adds_by w e i alive free living lacks (Ok tt) (typed_both w e i ids)
-          (f.closure, f.is_closure, None, f.judges, (refl, same ∙ sym (changed_unchanged (grown w e i f.closure) e)));
-    }
-
--- where nobody else has a mirror of it, the entity's ids are all
-pub found_other : (w : WorldState) (e : Entity) (i : Id) (ids : List Id) → is_alive w e ≡ true → is_reserved w e i ≡ false → IsLawful w →
-    Keeps (λ v. Adds v e i) → AddsExactly → FindsType w e i (Ok ids) → has w e i ≡ false → IsAlone w e i →
-    IsGrown w e i (changed w e (with_type ids))
-found_other w e i ids alive free lawful keeps exactly finds lacks alone =
-    let living = names_live w e i ids finds in
-    let f = found w e i ids living lacks finds in
-    let own : IsTrue (has_item id_cmp ids i) = subst (λ js. IsTrue (has_item id_cmp js i)) (sym f.ids_are)
-    (sym (keys_find (with_closure w f.closure f.of).held i)
-    ∙ zeros_have f.closure (where_key id_cmp (λ j. not (is_replaced w f.closure j)) (f.of).held) i (has_itself w i f.closure f.is_closure)) in
-    subst (IsGrown w e i) (alone_typed w e i ids f.of f.at alone own) (found_both w e i ids alive free lawful keeps exactly finds lacks)
-
-pub found_with : (w : WorldState) (e : Entity) (i : Id) → is_alive w e ≡ true → is_reserved w e i ≡ false → IsLawful w →
-    Keeps (λ v. Adds v e i) → AddsExactly → FindsTarget w e i (Ok With) → has w e i ≡ false → IsAlone w e i →
-    IsGrown w e i (changed w e (with_type (with_item id_cmp (unwrap_or (type_of_entity w e) []) i)))
-found_with w e i = found_other w e i (with_item id_cmp (unwrap_or (type_of_entity w e) []) i)
-
-pub found_instead : (w : WorldState) (e : Entity) (i old : Id) → is_alive w e ≡ true → is_reserved w e i ≡ false → IsLawful w →
-    Keeps (λ v. Adds v e i) → AddsExactly → FindsTarget w e i (Ok (Instead old)) → has w e i ≡ false → IsAlone w e i →
-    IsGrown w e i (changed w e (with_type (with_item id_cmp (without_item id_cmp (unwrap_or (type_of_entity w e) []) old) i)))
-found_instead w e i old = found_other w e i (with_item id_cmp (without_item id_cmp (unwrap_or (type_of_entity w e) []) old) i)
-
 own_type : (w : WorldState) (e : Entity) → unwrap_or (type_of_entity w e) [] ≡ type_of w e
 own_type w e = by (record_of w e)
   where
@@ -277,14 +242,39 @@ own_type w e = by (record_of w e)
     by None = refl
     by (Some d) = refl
 
--- where somebody has a mirror of it
-pub found_mirrored : (w : WorldState) (e : Entity) (i : Id) (t : Target) (m : Entity × Id) → is_alive w e ≡ true → is_reserved w e i ≡ false → IsLawful w →
-    Keeps (λ v. Adds v e i) → AddsExactly → FindsTarget w e i (Ok t) → has w e i ≡ false → mirror_of w e i ≡ Some m →
-    IsGrown w e i (with_mirror (changed w e (with_type (type_meant (type_of w e) i t))) (Some m))
-found_mirrored w e i t m alive free lawful keeps exactly finds lacks mirror =
-    subst (λ o. IsGrown w e i (with_mirror (changed w e (with_type (type_meant (type_of w e) i t))) o)) mirror
-    (found_both w e i (type_meant (type_of w e) i t) alive free lawful keeps exactly
-    (subst (λ own. FindsType w e i (Ok (type_meant own i t))) (own_type w e) finds) lacks)
+module _ (w : WorldState) (e : Entity) (i : Id) (alive : is_alive w e ≡ true) (free : is_reserved w e i ≡ false) (lawful : IsLawful w)
+    (keeps : Keeps (λ v. Adds v e i)) (exactly : AddsExactly) (lacks : has w e i ≡ false) where
+  module _ (ids : List Id) (finds : FindsType w e i (Ok ids)) where
+    living : names_living w i ≡ true
+    living = names_live w e i ids finds
+
+    of : IsFound w e i ids
+    of = found w e i ids living lacks finds
+
+    found_both : IsGrown w e i (typed_both w e i ids)
+    found_both =
+        let x = extended_typed w e i alive free living lacks of.closure of.of of.at lawful keeps exactly of.is_closure of.judges in
+        let same : typed_both w e i ids ≡ grown w e i of.closure = ap (typed_both w e i) of.ids_are ∙ x.typed in
+        record {
+          lawful = subst IsLawful (sym same) x.lawful;
+          adds = adds_by w e i alive free living lacks (Ok tt) (typed_both w e i ids)
+              (of.closure, of.is_closure, None, of.judges, (refl, same ∙ sym (changed_unchanged (grown w e i of.closure) e)));
+        }
+
+    -- where nobody else has a mirror of it, the entity's ids are all
+    pub found_other : IsAlone w e i → IsGrown w e i (changed w e (with_type ids))
+    found_other alone =
+        let own : IsTrue (has_item id_cmp ids i) = subst (λ js. IsTrue (has_item id_cmp js i)) (sym of.ids_are)
+        (sym (keys_find (with_closure w of.closure of.of).held i)
+        ∙ zeros_have of.closure (where_key id_cmp (λ j. not (is_replaced w of.closure j)) (of.of).held) i (has_itself w i of.closure of.is_closure)) in
+        subst (IsGrown w e i) (alone_typed w e i ids of.of of.at alone own) found_both
+
+  -- where somebody has a mirror of it
+  pub found_mirrored : (t : Target) (m : Entity × Id) → FindsTarget w e i (Ok t) → mirror_of w e i ≡ Some m →
+      IsGrown w e i (with_mirror (changed w e (with_type (type_meant (type_of w e) i t))) (Some m))
+  found_mirrored t m finds mirror =
+      subst (λ o. IsGrown w e i (with_mirror (changed w e (with_type (type_meant (type_of w e) i t))) o)) mirror
+      (found_both (type_meant (type_of w e) i t) (subst (λ own. FindsType w e i (Ok (type_meant own i t))) (own_type w e) finds))
 
 -- ---- a set
 
@@ -292,6 +282,13 @@ found_mirrored w e i t m alive free lawful keeps exactly finds lacks mirror =
 pub extended : (w : WorldState) (e : Entity) (i : Id) (v : Value) → MaySet w e i v → has w e i ≡ false → (r : Result (Unit {0}) Refusal) (new : WorldState) →
     Meets (Adds w e i) (step.may_add w e i) w r new → Meets (Extends w e i unchanged) true w r new
 extended w e i v may_set = extends_adds w e i may_set.alive may_set.free may_set.living
+
+-- the world between an add and the write that makes it a set
+pub record IsSetAfter (w : WorldState) (e : Entity) (i : Id) (v : Value) (mid : WorldState) : Type 0 where
+  pub there : has mid e i ≡ true
+  pub alive : is_alive mid e ≡ true
+  pub lawful : IsLawful (changed mid e (with_value i v))
+  pub sets : Sets w e i v (Ok tt) (changed mid e (with_value i v))
 
 module _ (w : WorldState) (e : Entity) (i : Id) (v : Value) (may_set : MaySet w e i v) (lawful : IsLawful w) (keeps : Keeps (λ x. Sets x e i v)) where
   fit_set : unfit_set w e i v ≡ None
@@ -326,15 +323,12 @@ module _ (w : WorldState) (e : Entity) (i : Id) (v : Value) (may_set : MaySet w 
 
   -- after the id was added
   module _ (absent : has w e i ≡ false) (once : AddsOnce) (mid : WorldState) (extends : Extends w e i unchanged (Ok tt) mid) where
-    pub there_after : has mid e i ≡ true
-    there_after = (once w e i mid (adds_by w e i may_set.alive may_set.free may_set.living absent (Ok tt) mid extends)).0
+    there : has mid e i ≡ true
+    there = (once w e i mid (adds_by w e i may_set.alive may_set.free may_set.living absent (Ok tt) mid extends)).0
 
-    pub alive_after : is_alive mid e ≡ true
-    alive_after = lives (record_of mid e) there_after
-      where
-        lives : (o : Option Record) → is_some (find id_cmp i (unwrap_or (option_map (λ (r : Record). r.held) o) [])) ≡ true → is_some o ≡ true
-        lives None h = absurd (true≢false (sym h))
-        lives (Some d) h = refl
+    lives : (o : Option Record) → is_some (find id_cmp i (unwrap_or (option_map (λ (r : Record). r.held) o) [])) ≡ true → is_some o ≡ true
+    lives None h = absurd (true≢false (sym h))
+    lives (Some d) h = refl
 
     both_done : (s : List Id) → IsClosure w i s → (verdict : Option Refusal) → Judges w e s (grown w e i s) verdict →
         MatchOption verdict (Answers {A = Unit {0}} tt (changed (grown w e i s) e unchanged) (Ok tt) mid) (λ why. Refuses {A = Unit {0}} why w (Ok tt) mid) →
@@ -342,11 +336,16 @@ module _ (w : WorldState) (e : Entity) (i : Id) (v : Value) (may_set : MaySet w 
     both_done s closure None judges m = (s, closure, None, judges, (refl, ap (λ x. changed x e (with_value i v)) (m.1 ∙ changed_unchanged (grown w e i s) e)))
     both_done s closure (Some why) judges m = absurd (not_ok m.0)
 
-    pub sets_after : Sets w e i v (Ok tt) (changed mid e (with_value i v))
+    sets_after : Sets w e i v (Ok tt) (changed mid e (with_value i v))
     sets_after = sets_by absent (Ok tt) (changed mid e (with_value i v)) (both_done extends.0 extends.1 extends.2 extends.3 extends.4)
 
-    pub lawful_after : IsLawful (changed mid e (with_value i v))
-    lawful_after = keeps w (Ok tt) (changed mid e (with_value i v)) lawful sets_after
+    pub set_after : IsSetAfter w e i v mid
+    set_after = record {
+      there = there;
+      alive = lives (record_of mid e) there;
+      lawful = keeps w (Ok tt) (changed mid e (with_value i v)) lawful sets_after;
+      sets = sets_after;
+    }
 
 -- ---- a remove, and a clear
 
@@ -359,8 +358,3 @@ module _ (w : WorldState) (e : Entity) (alive : is_alive w e ≡ true) (ordinary
     where
       fit_actor : unfit_actor w e ≡ None
       fit_actor = rw (alive, ordinary) refl
-
--- a call that leads to a state leads to what that state is
-pub same_ok_state : {A B S : Type 0} (r : Result A B) (new x y : S) → x ≡ y → OnOk r (new ≡ x) → OnOk r (new ≡ y)
-same_ok_state (Ok a) new x y same h = h ∙ same
-same_ok_state (Err b) new x y same h = h

@@ -212,11 +212,6 @@ module _ (w : WorldState) (g : Entity → Id → Bool) (lawful : IsLawful w) whe
 
 -- ---- the same of a store, seen as a world
 
--- a call that leads to a state of the store leads to what that makes the world
-pub made : {A E S W : Type 0} (f : S → W) (r : Result A E) (new x : S) (y : W) → f x ≡ y → OnOk r (new ≡ x) → OnOk r (f new ≡ y)
-made f (Ok a) new x y same h = ap f h ∙ same
-made f (Err b) new x y same h = h
-
 module _ (edition : Edition) (v : Indexed Record) (qs : List (List QueryTerm)) (w : WorldState) (lawful : IsLawful w) (seen : world_with edition v qs ≡ w)
     (ms : List Move) where
   moved_world : (new : WorldState) → with_entities w (fold after_move (entities w) ms) ≡ new → world_with edition (after_moves v ms) qs ≡ new

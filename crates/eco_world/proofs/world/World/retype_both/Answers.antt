@@ -1,12 +1,13 @@
-use Rattle.std.proofs.Common.{◌∷◌, [], sym, subst}
+use Rattle.std.proofs.Common.{◌∷◌, [], ap, ◌∙◌}
 use Rattle.eco_ids.specs.Lawful.{IsLawful}
 use Rattle.eco_store.specs.declared.moving.Move.{Move}
 use Rattle.eco_store.specs.Moving.{after_moves}
 use Rattle.eco_traits.specs.Target.{type_meant}
 use Rattle.eco_world.specs.Types.{type_of}
 use Rattle.eco_world.specs.Worlds.{asked_by, world_with}
+use Rattle.eco_ids.proofs.Results.{on_ok}
 use Rattle.eco_world.proofs.Changes.{by_result}
-use Rattle.eco_world.proofs.Mirroring.{both_moved, apart, made}
+use Rattle.eco_world.proofs.Mirroring.{both_moved, apart}
 use Rattle.eco_world.proofs.world.World.retype_both.Goals as goal
 
 pub returns-clause-ok : goal.returns-clause-ok
@@ -19,8 +20,8 @@ returns-clause-ok c =
     let m = c.args.mirror in
     let first : Move = record { entity = e; type_list = c.in_ok-ids.ids } in
     let second : Move = record { entity = m.0; type_list = c.in_ok-theirs.theirs } in
-    made (λ x. world_with edition x qs) c.retype_all.result c.retype_all.new.self.entities (after_moves v (first ∷ second ∷ [])) _
-    (both_moved edition v qs w c.is_lawful.ensures c.self.view_is (first ∷ second ∷ []) e
+    on_ok c.retype_all.result (λ is. ap (λ x. world_with edition x qs) is
+    ∙ both_moved edition v qs w c.is_lawful.ensures c.self.view_is (first ∷ second ∷ []) e
     (type_meant (type_of w e) c.args.id c.args.target) m (apart m.0 e c.requires.other)
     (λ t. record { entity = e; type_list = c.in_ok-ids.ensures t } ∷ record { entity = m.0; type_list = c.in_ok-theirs.ensures t } ∷ []))
     c.retype_all.ensures.ok

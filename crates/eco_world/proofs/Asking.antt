@@ -1,5 +1,6 @@
 -- Whether some living entity has a pair.
 use Rattle.std.proofs.Common.{true≢false, ◌≡◌, Bool, true, false, ◌||◌, ◌&&◌, List, [], ◌∷◌, is_some, refl, sym, ap, ◌∙◌, IsTrue, ◌↔◌}
+use Rattle.std.proofs.lemmas.Bool.{false_from_ne_true}
 use Rattle.std.specs.List.{list_any}
 use Rattle.std.specs.FinMap.Entries.{find}
 use Rattle.eco_ids.specs.declared.entity.Entity.{Entity}
@@ -76,9 +77,6 @@ held_is i (p ∷ ps) = λ t. exactly_held i p.1.held t || held_is i ps t
 
 -- where nobody has it, none does
 pub none_has : (w : WorldState) (i : Id) → is_held w i ≡ false → (e : Entity) → has w e i ≡ false
-none_has w i none e = by (has w e i) refl
-  where
-    by : (b : Bool) → has w e i ≡ b → b ≡ false
-    by true there = let own = entry_of (record_of w e) i there in absurd
-        (true≢false (sym (passes_some (λ r. is_some (find id_cmp i r.held)) (entities w) e (own.0, own.2, ap is_some own.3)) ∙ none))
-    by false absent = refl
+none_has w i none e = false_from_ne_true (has w e i) (λ there.
+    let own = entry_of (record_of w e) i there in
+    true≢false (sym (passes_some (λ r. is_some (find id_cmp i r.held)) (entities w) e (own.0, own.2, ap is_some own.3)) ∙ none))

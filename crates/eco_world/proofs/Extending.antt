@@ -9,7 +9,7 @@ use Rattle.eco_ids.specs.declared.entity.Entity.{Entity}
 use Rattle.eco_ids.specs.declared.id.Id.{Id}
 use Rattle.eco_ids.specs.declared.id.Id.TheVariants.{One, Two}
 use Rattle.eco_ids.specs.declared.refusal.Refusal.{Refusal}
-use Rattle.eco_ids.specs.declared.refusal.Refusal.TheVariants.{DeadId}
+use Rattle.eco_ids.specs.declared.refusal.Refusal.TheVariants.{DeadId, OutOfMemory}
 use Rattle.eco_ids.specs.declared.value.Value.{Value}
 use Rattle.eco_ids.specs.Builtin.{is_builtin}
 use Rattle.eco_ids.specs.Losses.{without, nobody}
@@ -40,7 +40,7 @@ use Rattle.eco_world.specs.Types.{type_of}
 use Rattle.eco_world.proofs.Changes.{held_at, sorted_at}
 use Rattle.eco_world.specs.Losses.{IsAlone}
 use Rattle.eco_world.proofs.Held.{retyped_is}
-use Rattle.eco_world.proofs.Mirroring.{alone_typed}
+use Rattle.eco_world.proofs.Mirroring.{alone_typed, left_value}
 use Rattle.eco_world.proofs.Steps.{meets_as}
 
 -- ---- a closure more
@@ -51,14 +51,6 @@ replaced_absent w s (Two r t) h =
     not_true (has_item id_cmp s (Two r t))
     (second (list_any (is_pair_of r) s) (not (has_item id_cmp s (Two r t)))
     (second (is_exclusive w r) (list_any (is_pair_of r) s && not (has_item id_cmp s (Two r t))) h))
-
-left_value : (old : Option Value) (replaced there : Bool) (v : Value) → (replaced ≡ true → there ≡ false) →
-    option_or (cond (not replaced) old None) (cond there (Some zeros) None) ≡ Some v → unwrap_or old zeros ≡ v
-left_value (Some u) false there v absent e = same_Some u v e
-left_value None false true v absent e = same_Some zeros v e
-left_value None false false v absent e = absurd (none-some v e)
-left_value old true true v absent e = absurd (true≢false (absent refl))
-left_value old true false v absent e = absurd (none-some v e)
 
 -- an add that is done: that it keeps the world lawful, and that the entity's new ids and the mirror say it all
 pub record IsExtended (w : WorldState) (e : Entity) (i : Id) (s : List Id) (d : Record) : Type 0 where
@@ -138,19 +130,8 @@ found w e i ids living absent finds = by_verdict extends.0 extends.1 extends.2 e
     by_verdict s closure (Some why) judges m = absurd (not_ok m)
 
 -- what stands against the type stands against the extension
-pub opposed : (w : WorldState) (e : Entity) (i : Id) (why : Refusal) → names_living w i ≡ true → has w e i ≡ false → FindsType w e i (Err why) →
-    Meets (Extends w e i unchanged) true w (Err why) w
-opposed w e i why living absent =
-    elim (is_out_of_memory {A = Unit {0}} (Err why)) as (λ b. MatchBool b (IsTrue (names_living w i)) (AddLeadsTo w e i (Err why)) →
-    MatchBool b (IsTrue true × (w ≡ w)) (Extends w e i unchanged (Err why) w)) [
-      | true ↦ λ m. (refl, refl)
-      | false ↦ λ m.
-          let x : ExtendsTo w e i (Err why) =
-          subst (λ b. MatchBool b (IsOwnType w e (Err why)) (ExtendsTo w e i (Err why))) absent
-          (subst (λ b. MatchBool b (MatchBool (has w e i) (IsOwnType w e (Err why)) (ExtendsTo w e i (Err why)))
-          (let r : Result (List Id) Refusal = Err why in r ≡ Err DeadId)) living m) in
-          by_verdict x.0 x.1 x.2 x.3 x.4
-    ]
+opposed : (w : WorldState) (e : Entity) (i : Id) (why : Refusal) → ExtendsTo w e i (Err why) → Extends w e i unchanged (Err why) w
+opposed w e i why x = by_verdict x.0 x.1 x.2 x.3 x.4
   where
     by_verdict : (s : List Id) → IsClosure w i s → (v : Option Refusal) → Judges w e s (grown w e i s) v →
         MatchOption v (IsTypeAfter w e s (Err why)) (λ y. (let r : Result (List Id) Refusal = Err why in r ≡ Err y)) → Extends w e i unchanged (Err why) w
@@ -174,57 +155,24 @@ module _ (w : WorldState) (e : Entity) (i : Id) (alive : is_alive w e ≡ true) 
 
   module _ (living : names_living w i ≡ true) (absent : has w e i ≡ false) where
     -- where it isn't, an add is an extension
-    pub adds_extends : (r : Result (Unit {0}) Refusal) (new : WorldState) → Meets (Extends w e i unchanged) true w r new →
-        Meets (Adds w e i) (step.may_add w e i) w r new
-    adds_extends r new = meets_as (Extends w e i unchanged) (Adds w e i) true (step.may_add w e i) w new w new r
-        (λ _ same. (ap (λ o. not (is_some o) && not (has w e i)) (fit w e i alive free living) ∙ ap not absent, same))
-        (adds_by w e i alive free living absent r new)
-
     pub extends_adds : (r : Result (Unit {0}) Refusal) (new : WorldState) → Meets (Adds w e i) (step.may_add w e i) w r new →
         Meets (Extends w e i unchanged) true w r new
     extends_adds r new = meets_as (Adds w e i) (Extends w e i unchanged) (step.may_add w e i) true w new w new r (λ _ same. (refl, same))
         (subst (λ X. X) (adds_are w e i alive free living absent r new))
 
   -- what stands against the type stands against the add
+  opposed_by : (why : Refusal) (b : Bool) → names_living w i ≡ b → (h : Bool) → has w e i ≡ h →
+      MatchBool b (MatchBool h (IsOwnType w e (Err why)) (ExtendsTo w e i (Err why))) (let r : Result (List Id) Refusal = Err why in r ≡ Err DeadId) →
+      Adds w e i (Err why) w
+  opposed_by why true living true there m = absurd (not_ok (sym m.2))
+  opposed_by why true living false absent m = adds_by w e i alive free living absent (Err why) w (opposed w e i why m)
+  opposed_by why false lies h is m = rw (alive, free, lies) (let same : why ≡ DeadId = cc in ap Err same, refl)
+
   pub opposed_add : (why : Refusal) → FindsType w e i (Err why) → (IsTrue (is_out_of_memory {A = Unit {0}} (Err why)) → has w e i ≡ false) →
       Meets (Adds w e i) (step.may_add w e i) w (Err why) w
-  opposed_add why finds memory = by_living (names_living w i) refl
-    where
-      one : (y : Refusal) → (let r : Result (List Id) Refusal = Err y in r ≡ Err DeadId) → y ≡ DeadId
-      one y h = cc
-
-      dead : names_living w i ≡ false → Meets (Adds w e i) (step.may_add w e i) w (Err why) w
-      dead lies =
-          (elim (is_out_of_memory {A = Unit {0}} (Err why)) as (λ b. MatchBool b (IsTrue (names_living w i)) (AddLeadsTo w e i (Err why)) →
-          MatchBool b (IsTrue (step.may_add w e i) × (w ≡ w)) (Adds w e i (Err why) w)) [
-            | true ↦ λ m. absurd (true≢false (sym m ∙ lies))
-            | false ↦ λ m.
-                let is : (let r : Result (List Id) Refusal = Err why in r ≡ Err DeadId) =
-                subst (λ b. MatchBool b (MatchBool (has w e i) (IsOwnType w e (Err why)) (ExtendsTo w e i (Err why)))
-                (let r : Result (List Id) Refusal = Err why in r ≡ Err DeadId)) lies m in
-                rw (alive, free, lies) (ap Err (one why is), refl)
-          ]) finds
-
-      there : names_living w i ≡ true → has w e i ≡ true → Meets (Adds w e i) (step.may_add w e i) w (Err why) w
-      there living has_it =
-          (elim (is_out_of_memory {A = Unit {0}} (Err why)) as (λ b. (IsTrue b → has w e i ≡ false) →
-          MatchBool b (IsTrue (names_living w i)) (AddLeadsTo w e i (Err why)) → MatchBool b (IsTrue (step.may_add w e i) × (w ≡ w)) (Adds w e i (Err why) w)) [
-            | true ↦ λ lacks m. absurd (true≢false (sym has_it ∙ lacks refl))
-            | false ↦ λ lacks m.
-                let own : IsOwnType w e (Err why) =
-                subst (λ b. MatchBool b (IsOwnType w e (Err why)) (ExtendsTo w e i (Err why))) has_it
-                (subst (λ b. MatchBool b (MatchBool (has w e i) (IsOwnType w e (Err why)) (ExtendsTo w e i (Err why)))
-                (let r : Result (List Id) Refusal = Err why in r ≡ Err DeadId)) living m) in
-                absurd (not_ok (sym own.2))
-          ]) memory finds
-
-      by_has : names_living w i ≡ true → (b : Bool) → has w e i ≡ b → Meets (Adds w e i) (step.may_add w e i) w (Err why) w
-      by_has living true h = there living h
-      by_has living false h = adds_extends living h (Err why) w (opposed w e i why living h finds)
-
-      by_living : (b : Bool) → names_living w i ≡ b → Meets (Adds w e i) (step.may_add w e i) w (Err why) w
-      by_living true h = by_has h (has w e i) refl
-      by_living false h = dead h
+  opposed_add OutOfMemory finds memory =
+      (ap (λ o. not (is_some o) && not (has w e i)) (fit w e i alive free finds) ∙ ap not (memory refl), refl)
+  opposed_add why finds memory = opposed_by why (names_living w i) refl (has w e i) refl finds
 
 -- the world once the entity has these ids, and the mirror of i stands where it belongs
 abbrev pub typed_both : WorldState → Entity → Id → List Id → WorldState

@@ -2,6 +2,7 @@
 use Rattle.std.proofs.Common.{◌≡◌, ◌≢◌, ℕ, zero, suc, ◌<◌, Bool, true, false, cond, not, nat_eq, nat_lt, List, [], ◌∷◌, map, length, slice_get, Option, Some}
 use Rattle.std.proofs.Common.{None, option_map, unwrap_or, is_some, is_eq, refl, sym, ap, ◌∙◌, subst, arith, IsTrue, true≢false, inl, inr, Contains}
 use Rattle.std.specs.List.{All, AllByRecursion, IsDistinct, list_any}
+use Rattle.std.proofs.lemmas.Bool.{false_from_ne_true}
 use Rattle.std.proofs.lemmas.Bool.Decides.{nat_tests, Decides-eqb}
 use Rattle.std.proofs.lemmas.Map.Views.{Contains-from_any}
 use Rattle.std.proofs.lemmas.Option.{get_or_from_slice_get, none-some, same_Some, slice_get-get_or, slice_get_within}
@@ -144,11 +145,8 @@ HasKinds slots = (n m : ℕ) (ids : List Id) → type_at slots n ≡ Some ids �
 
 no_other : (x : ListedTable) (ts : List ListedTable) → ((t : ListedTable) → Contains ts t → x.ids ≡ t.ids → ⊥) → AllByRecursion (λ t. same_type x t ≡ false) ts
 no_other x [] apart = tt
-no_other x (t ∷ ts) apart = (by (same_type x t) refl, no_other x ts (λ u c. apart u (there t u ts c)))
-  where
-    by : (b : Bool) → same_type x t ≡ b → b ≡ false
-    by true e = absurd (apart t (here t ts) (same_ids x.ids t.ids e))
-    by false e = refl
+no_other x (t ∷ ts) apart =
+    (false_from_ne_true (same_type x t) (λ e. apart t (here t ts) (same_ids x.ids t.ids e)), no_other x ts (λ u c. apart u (there t u ts c)))
 
 pub kinds_differ : (slots : List (Option TableState)) → HasKinds slots → IsDistinct same_type (with_rows slots)
 unfolding IsDistinct
@@ -273,18 +271,17 @@ module _ (w : WorldState) (slots : List (Option TableState)) (shown : IsShown (e
       own : 0 < length (table_in slots n).rows
       own = some n (or_left (nat_eq n n) (list_any (nat_eq n) ns) (itself n))
 
-      other : (m : ℕ) → nat_eq n m ≡ false → 0 < length (table_in slots m).rows → (b : Bool) → same_type (shown_at slots n) (shown_at slots m) ≡ b → b ≡ false
-      other m differ theirs true e =
+      other : (m : ℕ) → nat_eq n m ≡ false → 0 < length (table_in slots m).rows → same_type (shown_at slots n) (shown_at slots m) ≡ false
+      other m differ theirs = false_from_ne_true _ (λ e.
           let kind : (table_in slots m).ids ≡ (table_in slots n).ids = sym (same_ids (table_in slots n).ids (table_in slots m).ids e) in
           let same : n ≡ m = kinds n m (table_in slots n).ids (type_there n own) (type_there m theirs ∙ ap Some kind) in
-          sym (itself n) ∙ ap (nat_eq n) same ∙ differ
-      other m differ theirs false e = refl
+          true≢false (sym (itself n) ∙ ap (nat_eq n) same ∙ differ))
 
       apart : (ms : List ℕ) → AllByRecursion (λ m. nat_eq n m ≡ false) ms → ((m : ℕ) → list_any (nat_eq m) ms ≡ true → 0 < length (table_in slots m).rows) →
           AllByRecursion (λ t. same_type (shown_at slots n) t ≡ false) (map (shown_at slots) ms)
       apart [] differ theirs = tt
       apart (m ∷ ms) differ theirs = (
-        other m differ.0 (theirs m (or_left (nat_eq m m) (list_any (nat_eq m) ms) (itself m))) (same_type (shown_at slots n) (shown_at slots m)) refl,
+        other m differ.0 (theirs m (or_left (nat_eq m m) (list_any (nat_eq m) ms) (itself m))),
         apart ms differ.1 (λ k h. theirs k (or_right (nat_eq k m) (list_any (nat_eq k) ms) h)),
       )
 

@@ -1,6 +1,6 @@
 -- What the store makes of an entity's record, and what a step makes of it.
 use Rattle.std.proofs.Common.{◌≡◌, Bool, true, false, cond, ◌&&◌, T, List, [], ◌∷◌, Option, Some, None, option_map, unwrap_or, refl, sym, ap, ◌∙◌, subst}
-use Rattle.std.proofs.Common.{is_some, true≢false, IsTrue, IsFalse, MatchBool, Result, Ok, Err, OnOk, OnErr}
+use Rattle.std.proofs.Common.{is_some, true≢false, IsTrue, MatchBool, Result, Ok, Err, OnOk, OnErr}
 use Rattle.std.proofs.lemmas.Bool.{false_from_ne_true}
 use Rattle.std.specs.List.{list_any}
 use Rattle.std.specs.FinMap.Entries.{find, is_sorted}

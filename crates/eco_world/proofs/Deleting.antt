@@ -1,5 +1,5 @@
 -- The cleanup's answer, seen as a delete of the world.
-use Rattle.std.proofs.Common.{◌≡◌, Bool, true, false, true≢false, ◌↔◌, List, [], ◌∷◌, IsTrue, MatchBool, Result, sym, subst, is_some, inl, inr}
+use Rattle.std.proofs.Common.{◌≡◌, true, false, true≢false, ◌↔◌, List, [], ◌∷◌, IsTrue, Result, sym, subst, is_some, inl, inr}
 use Rattle.std.specs.FinMap.Entries.{find}
 use Rattle.eco_ids.specs.declared.entity.Entity.{Entity}
 use Rattle.eco_ids.specs.declared.entity.TheConstants.{DELETE}
@@ -8,11 +8,9 @@ use Rattle.eco_ids.specs.declared.refusal.Refusal.{Refusal}
 use Rattle.eco_ids.specs.Builtin.{is_builtin, is_builtins}
 use Rattle.eco_ids.specs.Cleanup.{Deletes, Ends, HoldsOn, IsDoomed}
 use Rattle.eco_ids.specs.Delete.{DeletesOne, DeletesWith, may_delete, may_delete_with}
-use Rattle.eco_ids.specs.Lawful.{IsLawful}
-use Rattle.eco_ids.specs.Laws.{Keeps}
 use Rattle.eco_ids.specs.Least.{Least, root, next}
 use Rattle.eco_ids.specs.Order.{entity_cmp, entity_eq, has_item, id_cmp}
-use Rattle.eco_ids.specs.Outcome.{Meets, is_out_of_memory}
+use Rattle.eco_ids.specs.Outcome.{Meets}
 use Rattle.eco_ids.specs.World.{WorldState, has, is_alive, entities, record_of}
 use Rattle.eco_ids.proofs.DeletesEnd.{deletes_end}
 use Rattle.eco_ids.proofs.Facts.{or_left, or_parts}

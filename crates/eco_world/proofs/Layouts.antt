@@ -1,5 +1,5 @@
 -- Lists of tables that ascend by type, and a whole layout around those of some types.
-use Rattle.std.proofs.Common.{◌≡◌, ◌≢◌, ℕ, zero, suc, ◌<◌, Bool, ◌||◌, true, false, cond, List, [], ◌∷◌, map, filter, length, get_or, refl, sym, ap, ◌∙◌}
+use Rattle.std.proofs.Common.{◌≡◌, ◌≢◌, ℕ, zero, suc, ◌<◌, Bool, true, false, cond, List, [], ◌∷◌, map, filter, length, get_or, refl, sym, ap, ◌∙◌}
 use Rattle.std.proofs.Common.{subst, arith, suc-add, zero-le, le_of_suc-le-suc, IsTrue, IsSortedBy, Ordering, Less, Equal, Greater, is_eq, is_lt, true≢false}
 use Rattle.std.proofs.Common.{◌⊎◌, inl, inr, ◌↔◌, Contains}
 use Rattle.std.specs.Cmp.{IsTotalOrder, on_total, tied_itself}

@@ -1,6 +1,6 @@
 -- What listed tables lend are the values that their entities have in the world.
-use Rattle.std.proofs.Common.{◌≡◌, ℕ, suc, Bool, true, false, ◌&&◌, cond, is_some, IsSome, nat_lt, List, [], ◌∷◌, map, length, slice_get}
-use Rattle.std.proofs.Common.{Option, Some, None, option_map, unwrap_or, refl, sym, ap, ◌∙◌, subst, inl, inr, Contains}
+use Rattle.std.proofs.Common.{◌≡◌, ℕ, suc, true, ◌&&◌, is_some, IsSome, nat_lt, List, [], ◌∷◌, map, slice_get}
+use Rattle.std.proofs.Common.{Option, Some, None, option_map, unwrap_or, refl, sym, ap, ◌∙◌, subst, Contains}
 use Rattle.std.specs.List.{All}
 use Rattle.std.specs.List.Sorted.{IsPermutation}
 use Rattle.std.proofs.lemmas.Option.{get_or_from_slice_get}

@@ -1,7 +1,7 @@
 -- Mirrors as moves of a store.
 use Rattle.std.proofs.Common.{◌≡◌, Bool, true, false, cond, not, ◌⊎◌, inl, inr, T, List, [], ◌∷◌, map, filter, fold, Option, Some, None, unwrap_or, is_some}
 use Rattle.std.proofs.Common.{IsTrue}
-use Rattle.std.proofs.Common.{IsFalse, refl, sym, ap, ◌∙◌, subst, true≢false, Result, Ok, Err, OnOk, MatchOption}
+use Rattle.std.proofs.Common.{IsFalse, refl, sym, ap, ◌∙◌, subst, true≢false, MatchOption}
 use Rattle.std.proofs.lemmas.Bool.{false_from_ne_true}
 use Rattle.std.proofs.lemmas.Option.{same_Some, none-some}
 use Rattle.std.specs.FinMap.Entries.{find, put, where_key, is_sorted, is_sorted-where_key, find-where_key}

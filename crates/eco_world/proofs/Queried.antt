@@ -1,6 +1,5 @@
 -- What holds of the world of a store holds whatever queries were added to it.
-use Rattle.std.proofs.Common.{◌≡◌, true, List, [], IsTrue, MatchBool, Result, Ok, Err, ap}
-use Rattle.std.proofs.Common.{false}
+use Rattle.std.proofs.Common.{true, List, [], IsTrue, Result, Ok, Err, ap}
 use Rattle.eco_ids.specs.declared.entity.Entity.{Entity}
 use Rattle.eco_ids.specs.declared.entity.TheConstants.{DELETE, PANIC}
 use Rattle.eco_ids.specs.declared.id.Id.{Id}
@@ -12,7 +11,7 @@ use Rattle.eco_ids.specs.Data.{fits}
 use Rattle.eco_ids.specs.Indices.{Indexed}
 use Rattle.eco_ids.specs.Lawful.{IsLawful, IsLawfulRecord, KeepsEdition}
 use Rattle.eco_ids.specs.Least.{Least, root, next}
-use Rattle.eco_ids.specs.Outcome.{Meets, is_out_of_memory}
+use Rattle.eco_ids.specs.Outcome.{Meets}
 use Rattle.eco_ids.specs.Terms.{QueryTerm}
 use Rattle.eco_ids.specs.declared.edition.Edition.{Edition}
 use Rattle.eco_ids.specs.declared.edition.Edition.TheVariants.{First, Second}

@@ -190,9 +190,12 @@ module _ (w : WorldState) (slots : List (Option TableState)) (shown : IsShown (e
       let row = first_row (table_in slots n).rows some in
       let own = row_lives n 0 row.0 row.1 in
       let known = some_of (record_of w row.0.entity) own.0 in
-      passes_some (λ (r : Record). passes (type_of_record r)) (entities w) row.0.entity
-      (known.0, known.1, ap (λ o. passes (map (λ p. p.0) (unwrap_or (option_map (λ (k : Record). k.held) o) []))) (sym known.1)
-      ∙ ap passes (sym own.1) ∙ fit)
+      passes_some (λ (r : Record). passes (type_of_record r)) (entities w) row.0.entity (
+        known.0,
+        known.1,
+        ap (λ o. passes (map (λ p. p.0) (unwrap_or (option_map (λ (k : Record). k.held) o) []))) (sym known.1)
+            ∙ ap passes (sym own.1) ∙ fit,
+      )
 
   -- the row of a living entity
   row_there : (e : Entity) → IsTrue (is_alive w e) → (n : ℕ) × (row : ℕ) × (r : TableRow) × (row_at slots n row ≡ Some r) × (r.entity ≡ e)

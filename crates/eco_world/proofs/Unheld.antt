@@ -1,9 +1,8 @@
 -- An entity that no id names dies alone.
 use Rattle.std.proofs.Common.{◌≡◌, ℕ, ◌+◌, Bool, true, false, true≢false, cond, ◌||◌, ◌⊎◌, List, [], ◌∷◌, map, slice_get, slice_set, Option}
 use Rattle.std.proofs.Common.{Some, None, option_map, is_some}
-use Rattle.std.proofs.Common.{IsTrue, IsFalse, Ok, refl, sym, ap, ◌∙◌, subst, inl, inr, arith}
+use Rattle.std.proofs.Common.{IsTrue, Ok, refl, sym, ap, ◌∙◌, subst, inl, inr, arith}
 use Rattle.std.proofs.lemmas.Bool.{false_from_ne_true}
-use Rattle.std.specs.FinMap.Entries.{find}
 use Rattle.std.specs.List.{list_any}
 use Rattle.eco_ids.specs.declared.edition.Edition.{Edition}
 use Rattle.eco_ids.specs.declared.entity.Entity.{Entity}
@@ -16,7 +15,7 @@ use Rattle.eco_ids.specs.Delete.{DeletesOne}
 use Rattle.eco_ids.specs.Indices.{Indexed, IndexState, Retired, Free, Living, map_from, raised, with_death}
 use Rattle.eco_ids.specs.Least.{root}
 use Rattle.eco_ids.specs.Losses.{keeping, left_at}
-use Rattle.eco_ids.specs.Order.{entity_cmp, entity_eq, has_item, id_cmp, id_eq, names_entity}
+use Rattle.eco_ids.specs.Order.{entity_cmp, entity_eq, has_item, id_eq, names_entity}
 use Rattle.eco_ids.specs.World.{Record, WorldState, entities, has, is_alive, living, record_of, with_entities}
 use Rattle.eco_ids.proofs.AtPlaces.{get_left, same_number, same_places}
 use Rattle.eco_ids.proofs.Exact.{keys_find}

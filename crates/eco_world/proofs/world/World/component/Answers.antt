@@ -1,4 +1,4 @@
-use Rattle.std.proofs.Common.{ℕ, ◌≤◌, ◌||◌, nat_le, IsTrue, Some, le-leb, arith, rules, subst, sym}
+use Rattle.std.proofs.Common.{ℕ, ◌≤◌, ◌||◌, nat_le, IsTrue, Some, le-leb, arith, rules}
 use Rattle.std.proofs.lemmas.Grind.{common_steps}
 use Rattle.std.specs.Option.{option_copied}
 use Rattle.eco_ids.specs.declared.edition.Edition.TheVariants.{First, Second}
@@ -7,7 +7,6 @@ use Rattle.eco_ids.specs.Edition.{largest_arity}
 use Rattle.eco_ids.specs.Births.{Makes, MakesComponent, component_record}
 use Rattle.eco_ids.specs.Lawful.{is_proper_arity}
 use Rattle.eco_ids.proofs.Ascending.{both}
-use Rattle.eco_ids.specs.World.{WorldState}
 use Rattle.eco_store.specs.Store.{record_name}
 use Rattle.eco_world.specs.Worlds.{asked_by}
 use Rattle.eco_world.proofs.Steps.{lifted, met_lawful}

@@ -1,5 +1,4 @@
-use Rattle.std.proofs.Common.{Ok, refl, sym, ◌∙◌, subst}
-use Rattle.eco_ids.specs.Lawful.{IsLawful}
+use Rattle.std.proofs.Common.{Ok, refl, sym, subst}
 use Rattle.eco_ids.specs.Step.{Adds, changed}
 use Rattle.eco_store.specs.Store.{with_toggled}
 use Rattle.eco_traits.specs.Prospect.{Foresees}

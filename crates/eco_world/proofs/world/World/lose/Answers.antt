@@ -1,7 +1,6 @@
 use Rattle.std.proofs.Common.{ap, ◌∙◌}
 use Rattle.eco_ids.specs.Lawful.{IsLawful}
 use Rattle.eco_ids.specs.Mirrors.{goes_too}
-use Rattle.eco_store.specs.Moving.{after_moves}
 use Rattle.eco_world.specs.Losses.{takes}
 use Rattle.eco_world.specs.Worlds.{asked_by, world_with}
 use Rattle.eco_ids.proofs.Results.{on_ok}

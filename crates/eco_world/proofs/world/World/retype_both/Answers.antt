@@ -1,7 +1,6 @@
 use Rattle.std.proofs.Common.{◌∷◌, [], ap, ◌∙◌}
 use Rattle.eco_ids.specs.Lawful.{IsLawful}
 use Rattle.eco_store.specs.declared.moving.Move.{Move}
-use Rattle.eco_store.specs.Moving.{after_moves}
 use Rattle.eco_traits.specs.Target.{type_meant}
 use Rattle.eco_world.specs.Types.{type_of}
 use Rattle.eco_world.specs.Worlds.{asked_by, world_with}

@@ -26,7 +26,7 @@ use Rattle.eco_cleanup.specs.contracts.node.NodePartialEq.TheImpl as node_impl
 use Rattle.eco_cleanup.specs.declared.node.Node.{Node}
 use Rattle.eco_cleanup.specs.declared.node.Node.TheVariants.{Root, Falling, Named}
 use Rattle.eco_cleanup.specs.declared.objection.Objection.{Objection}
-use Rattle.eco_cleanup.proofs.Deaths.{doomed_exactly, named_found, spare, touched_there}
+use Rattle.eco_cleanup.proofs.Deaths.{doomed_exactly, spare, touched_there}
 use Rattle.eco_cleanup.proofs.Firsts.{IsFirst}
 use Rattle.eco_cleanup.proofs.Noted.{same_test}
 use Rattle.eco_cleanup.proofs.Objections.{objection_cmp_total, objection_first, objects, objects_at}
@@ -87,9 +87,9 @@ module _ (v : Indexed Record) (slots : List (Option TableState)) (shown : IsShow
   named_there m n dies found spared true falling =
       absurd
       (true≢false
-      (sym (touched_there v slots shown starts keys begin exact m n dies (both (is_naming slots m n) (falls (world_of v) slots m n) found falling)) ∙ spared))
+      (sym (touched_there v slots shown starts keys begin exact m (Falling n) dies (both (is_naming slots m n) (falls (world_of v) slots m n) found falling)) ∙ spared))
   named_there m n dies found spared false falling =
-      named_found v slots shown starts keys begin exact m n dies (both (is_naming slots m n) (not (falls (world_of v) slots m n)) found (ap not falling))
+      touched_there v slots shown starts keys begin exact m (Named n) dies (both (is_naming slots m n) (not (falls (world_of v) slots m n)) found (ap not falling))
 
   objects_if : (h m : Entity) → Forbids (world_of v) members h m → IsTrue (some_objects (record { holder = h; member = m }))
   objects_if h m forbids =

@@ -1,5 +1,5 @@
 -- Who dies by the nodes that the search finds is who is doomed.
-use Rattle.std.proofs.Common.{◌≡◌, ◌≢◌, ℕ, Bool, true, false, ◌↔◌, ◌||◌, inl, inr, List, [], ◌∷◌, map, Option, Some, refl, sym, ap, ◌∙◌, subst, true≢false}
+use Rattle.std.proofs.Common.{◌≡◌, ◌≢◌, ℕ, Bool, false, ◌↔◌, ◌||◌, inl, inr, List, [], ◌∷◌, map, Option, Some, refl, sym, ap, ◌∙◌, subst, true≢false}
 use Rattle.std.proofs.Common.{IsTrue}
 use Rattle.std.proofs.Math.Bool.{or-false}
 use Rattle.std.proofs.lemmas.Bool.{false_from_ne_true}

@@ -1,7 +1,7 @@
 -- Who is named by one id of one other entity dies alone, and that id goes.
 use Rattle.std.proofs.Common.{◌≡◌, ℕ, ◌+◌, Bool, true, false, true≢false, cond, not, ◌⊎◌, List, [], ◌∷◌, filter, slice_get, slice_set, Option}
-use Rattle.std.proofs.Common.{Some, None, option_map, is_some, unwrap_or, IsTrue, IsFalse, refl, sym, ap, ◌∙◌, subst, inl, inr, arith}
-use Rattle.std.specs.FinMap.Entries.{find, is_sorted}
+use Rattle.std.proofs.Common.{Some, None, option_map, is_some, unwrap_or, IsTrue, refl, sym, ap, ◌∙◌, subst, inl, inr, arith}
+use Rattle.std.specs.FinMap.Entries.{is_sorted}
 use Rattle.std.proofs.Math.Bool.{or-false}
 use Rattle.std.proofs.lemmas.Bool.{false_from_ne_true}
 use Rattle.std.proofs.lemmas.Option.{same_Some}

@@ -1,6 +1,6 @@
 -- Entities die, and ids go from the types of the others.
-use Rattle.std.proofs.Common.{◌≡◌, ◌≢◌, ℕ, zero, suc, ◌+◌, ◌<◌, Bool, true, false, true≢false, cond, not, ◌||◌, T, List, [], ◌∷◌, map, filter, fold}
-use Rattle.std.proofs.Common.{length, get_or, slice_get, Some, unwrap_or, nat_lt, IsTrue, IsFalse, refl, sym, ap, ◌∙◌, arith}
+use Rattle.std.proofs.Common.{◌≡◌, ◌≢◌, ℕ, suc, ◌+◌, Bool, true, false, true≢false, cond, not, ◌||◌, T, List, [], ◌∷◌, map, filter, fold}
+use Rattle.std.proofs.Common.{get_or, slice_get, Some, unwrap_or, nat_lt, IsTrue, refl, sym, ap, ◌∙◌, arith}
 use Rattle.std.specs.List.{All, Contains, list_any}
 use Rattle.std.specs.FinMap.Entries.{find, where_key, is_sorted}
 use Rattle.std.proofs.lemmas.Bool.{false_from_ne_true}
@@ -11,7 +11,7 @@ use Rattle.eco_ids.specs.declared.id.Id.{Id}
 use Rattle.eco_ids.specs.declared.value.Value.{Value}
 use Rattle.eco_ids.specs.Indices.{Indexed, IndexState, Retired, Free, Living, map_from, map_state, raised, record_of}
 use Rattle.eco_ids.specs.Losses.{keeping, left_at}
-use Rattle.eco_ids.specs.Order.{has_item, id_cmp, is_ascending}
+use Rattle.eco_ids.specs.Order.{id_cmp, is_ascending}
 use Rattle.eco_ids.specs.World.{Record, zeros}
 use Rattle.eco_ids.proofs.Ascending.{first_T, second_T}
 use Rattle.eco_ids.proofs.Entries.{apart, sorted_is}

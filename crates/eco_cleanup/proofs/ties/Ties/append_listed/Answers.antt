@@ -1,4 +1,4 @@
-use Rattle.std.proofs.Common.{◌≡◌, ◌++◌, flat_map, length, take, ap, ◌∙◌, arith}
+use Rattle.std.proofs.Common.{◌++◌, flat_map, ap, ◌∙◌}
 use Rattle.std.proofs.lemmas.List.{take_all}
 use Rattle.eco_cleanup.specs.Nodes.{nodes_at}
 use Rattle.eco_store.specs.Worlds.{world_of}

@@ -1,4 +1,4 @@
-use Rattle.std.proofs.Common.{◌≡◌, ◌||◌, length, take, ap, ◌∙◌, arith}
+use Rattle.std.proofs.Common.{◌||◌, ap, ◌∙◌, arith}
 use Rattle.std.proofs.lemmas.List.{take_all}
 use Rattle.std.specs.List.{list_any}
 use Rattle.eco_cleanup.specs.Nodes.{is_one_of, touches}

@@ -20,7 +20,7 @@ use Rattle.eco_entities.specs.Runs.{Call, Create, Admit, MakeAlive, Kill, Rename
 use Rattle.eco_ids.proofs.Lists.{slice_get-set_same, slice_get-set_other}
 use Rattle.eco_ids.proofs.States.{living_at}
 use Rattle.eco_entities.proofs.States.{free_known, alive_known}
-use Rattle.eco_entities.proofs.Kept.{next_has_room, IsRoom, with_room}
+use Rattle.eco_entities.proofs.Calls.{called}
 
 -- ---- one state
 
@@ -100,71 +100,17 @@ need_dead w e x alive =
     let living : (r : Registration) × (slice_get w.indices x.index ≡ Some (Living x.generation r)) = alive_known w x alive in
     need_put w x.index (raised x.generation) (Living x.generation living.0) e living.1 (λ g. need_died x.generation g living.0)
 
-need_room : (w : Indexed Registration) (e x : Entity) → need_of (with_room w x) e ≤ need_of w e
-need_room w e x =
-    elim (cases_Bool (nat_lt x.index (length w.indices))) [
-      | inl known ↦ rw known (omega arith)
-      | inr fresh ↦ rw fresh (need_admitted w e 1)
-    ]
-
-need_new : (w : Indexed Registration) (e x : Entity) (r : Registration) → next_entity w ≡ Some x → need_of (with_new w x r) e ≤ need_of w e
-need_new w e x r h =
-    let room : IsRoom w x = next_has_room w x h in
-    let settled = need_made_alive (with_room w x) e x r room.free in
-    let before = need_room w e x in
-    rw (← room.settled r) (omega (arith, settled, before))
-
 -- a change that keeps the arity
-need_changed : (w : Indexed Registration) (e x : Entity) (change : Registration → Registration) → ((r : Registration) → (change r).arity ≡ r.arity)
-    → (o : Option Registration) → record_of w x ≡ o → need_of (change_kept w x change o) e ≤ need_of w e
-need_changed w e x change keeps None h = omega arith
-need_changed w e x change keeps (Some r) h =
-    need_put w x.index (Living x.generation (change r)) (Living x.generation r) e (living_at w x r h)
-    (λ g. rw keeps (omega arith))
+need_changed : (w : Indexed Registration) (e x : Entity) (r new : Registration) → record_of w x ≡ Some r → new.arity ≡ r.arity →
+    need_of (with_record w x new) e ≤ need_of w e
+need_changed w e x r new h same = need_put w x.index (Living x.generation new) (Living x.generation r) e (living_at w x r h) (λ g. rw same (omega arith))
 
 -- ---- each call
 
-need_made : (w new : Indexed Registration) (e : Entity) (d : Registration) (r : Result Entity Refusal) (u : Option Refusal) (o : Option Entity) →
-    next_entity w ≡ o → MatchOption u (MatchOption o (Refuses NoMoreIds w r new) (λ x. Answers x (with_new w x d) r new)) (λ why. Refuses why w r new) →
-    need_of new e ≤ need_of w e
-need_made w new e d r (Some why) o n h = rw h.1 (omega arith)
-need_made w new e d r None None n h = rw h.1 (omega arith)
-need_made w new e d r None (Some x) n h = rw h.1 (need_new w e x d n)
-
-need_renamed : (w new : Indexed Registration) (e x : Entity) (name : Option (List ℕ)) (r : Result (Unit {0}) Refusal) (u : Option Refusal) →
-    MatchOption u (Answers tt (changed w x (renamed name)) r new) (λ why. Refuses why w r new) → need_of new e ≤ need_of w e
-need_renamed w new e x name r None h = rw h.1 (need_changed w e x (renamed name) (λ k. refl) (record_of w x) refl)
-need_renamed w new e x name r (Some why) h = rw h.1 (omega arith)
-
 need_call : (c : Call) (w new : Indexed Registration) (e : Entity) → LeadsTo c w new → need_of new e ≤ need_of w e
-need_call (Create name arity) w new e h =
-    elim (cases_Bool (is_out_of_memory h.0)) [
-      | inl out ↦ let same : IsTrue (may_make given_name w name) × (new ≡ w) = MatchBool-at_true _ _ out h.1 in rw same.1 (omega arith)
-      | inr step ↦ need_made w new e (newcomer name arity) h.0 (unfit_name given_name w name) (next_entity w) refl (MatchBool-at_false _ _ step h.1)
-    ]
-need_call (Admit n) w new e h =
-    elim (cases_Bool (is_out_of_memory h.0)) [
-      | inl out ↦ let same : IsTrue (may_admit w n) × (new ≡ w) = MatchBool-at_true _ _ out h.1 in rw same.1 (omega arith)
-      | inr step ↦
-          let admits : Admits w n h.0 new = MatchBool-at_false _ _ step h.1 in
-          elim (cases_Bool (nat_le (length w.indices + n) w.limit)) [
-            | inl room ↦ let done : (h.0 ≡ Ok tt) × (new ≡ admitted n w) = MatchBool-at_true _ _ room admits in rw done.1 (need_admitted w e n)
-            | inr full ↦ let refused : (h.0 ≡ Err NoMoreIds) × (new ≡ w) = MatchBool-at_false _ _ full admits in rw refused.1 (omega arith)
-          ]
-    ]
-need_call (MakeAlive x) w new e h =
-    elim (cases_Bool (is_free_at w x)) [
-      | inl free ↦ let done : (h.0 ≡ Ok tt) × (new ≡ with_record w x (newcomer None None)) = MatchBool-at_true _ _ free h.1 in
-          rw done.1 (need_made_alive w e x (newcomer None None) free)
-      | inr other ↦ let refused : (h.0 ≡ Err Taken) × (new ≡ w) = MatchBool-at_false _ _ other h.1 in rw refused.1 (omega arith)
-    ]
-need_call (Kill x) w new e h = rw h.1 (need_dead w e x h.0)
-need_call (Rename x name) w new e h =
-    elim (cases_Bool (is_out_of_memory h.0)) [
-      | inl out ↦ let same : IsTrue (may_rename given_name w x false name) × (new ≡ w) = MatchBool-at_true _ _ out h.1 in rw same.1 (omega arith)
-      | inr step ↦ need_renamed w new e x name h.0 (unfit_rename given_name w x false name) (MatchBool-at_false _ _ step h.1)
-    ]
-need_call (SetPlace x place) w new e h = rw h.1 (need_changed w e x (placed place) (λ k. refl) (record_of w x) refl)
+need_call c w new e =
+    called (λ v u. need_of u e ≤ need_of v e) (λ v. omega arith) (λ v mid u less fewer. omega (arith, less, fewer)) (λ v n. need_admitted v e n)
+    (λ v x r free. need_made_alive v e x r free) (λ v x alive. need_dead v e x alive) (λ v x r u h same. need_changed v e x r u h same) c w new
 
 pub never_grow : NeedsNeverGrow
 never_grow old new c h (One e) = need_call c old new e h

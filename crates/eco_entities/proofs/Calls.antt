@@ -1,5 +1,5 @@
 -- What holds between an index and what each kind of change makes of it holds between it and what a call makes of it.
-use Rattle.std.proofs.Common.{◌≡◌, ℕ, ◌+◌, ◌≤◌, Option, Some, None, List, inl, inr, length, nat_lt, nat_le, Result, Ok, Err, IsTrue, MatchOption, true, false, refl}
+use Rattle.std.proofs.Common.{◌≡◌, ℕ, ◌+◌, Option, Some, None, List, inl, inr, length, nat_lt, nat_le, Result, Ok, Err, IsTrue, MatchOption, true, false, refl}
 use Rattle.std.proofs.lemmas.Bool.{cases_Bool, MatchBool-at_true, MatchBool-at_false}
 use Rattle.eco_ids.specs.declared.entity.Entity.{Entity}
 use Rattle.eco_ids.specs.declared.refusal.Refusal.{Refusal}

@@ -1,19 +1,18 @@
 -- A handle that was killed stays dead.
 use Rattle.std.proofs.lemmas.Grind.{common_steps}
-use Rattle.std.proofs.Common.{◌≡◌, ◌≢◌, ℕ, zero, suc, ◌+◌, ◌<◌, ◌≤◌, Bool, true, false, cond, List, [], ◌∷◌, ◌++◌, length, slice_get, slice_set, replicate}
-use Rattle.std.proofs.Common.{refl, ap, Option, Some, None, is_some, inl, inr, arith, nat_lt, Result, Ok, Err, IsTrue, if◌then◌else◌, MatchOption}
-use Rattle.std.proofs.lemmas.Bool.{cases_eq, cases_Bool, ne_eqb, MatchBool-at_true, MatchBool-at_false}
+use Rattle.std.proofs.Common.{◌≡◌, ◌≢◌, ℕ, zero, suc, ◌+◌, ◌<◌, ◌≤◌, Bool, true, false, cond, List, [], ◌∷◌, ◌++◌, slice_get, slice_set, replicate}
+use Rattle.std.proofs.Common.{refl, ap, Option, Some, None, is_some, arith, Ok, Err, if◌then◌else◌, MatchOption}
+use Rattle.std.proofs.lemmas.Bool.{cases_eq, ne_eqb}
 use Rattle.std.proofs.lemmas.Option.{slice_get_within}
 use Rattle.eco_ids.specs.declared.entity.Entity.{Entity}
 use Rattle.eco_ids.specs.declared.refusal.Refusal.{Refusal}
 use Rattle.eco_ids.specs.declared.refusal.Refusal.TheVariants.{NoMoreIds}
-use Rattle.eco_ids.specs.Births.{may_make, unfit_name}
+use Rattle.eco_ids.specs.Births.{unfit_name}
 use Rattle.eco_ids.specs.Indices.{Indexed, IndexState, Retired, Free, Living, record_in, record_of, is_alive, is_free_at, next_entity, with_record, with_new}
-use Rattle.eco_ids.specs.Indices.{with_death, admitted, changed, change_kept}
-use Rattle.eco_ids.specs.Outcome.{Refuses, Answers, is_out_of_memory}
-use Rattle.eco_ids.specs.Renaming.{unfit_rename, may_rename}
-use Rattle.eco_entities.specs.Registration.{Registration, newcomer, given_name, placed, renamed}
-use Rattle.eco_entities.specs.Runs.{Call, Create, Admit, MakeAlive, Kill, Rename, SetPlace, LeadsTo, RunsTo, NobodyLivesTwice}
+use Rattle.eco_ids.specs.Indices.{with_death, admitted}
+use Rattle.eco_ids.specs.Outcome.{Refuses, Answers}
+use Rattle.eco_entities.specs.Registration.{Registration, newcomer, given_name}
+use Rattle.eco_entities.specs.Runs.{Call, LeadsTo, RunsTo, NobodyLivesTwice}
 use Rattle.eco_ids.proofs.Lists.{slice_get-set_same, slice_get-set_other}
 use Rattle.eco_ids.proofs.States.{living_at}
 use Rattle.eco_entities.proofs.States.{free_known, alive_known, next_is}

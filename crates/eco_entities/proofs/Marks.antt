@@ -252,21 +252,21 @@ module _ (kept : Inside) (w : Indexed Registration) (m : IsMarked kept.limit (st
       → grown ≡ kept.free ++ replicate n false → marks' ≡ take (length (items kept)) grown ++ replicate (length grown - length (items kept)) true →
       ShowsMarked kept.limit (labels kept) slots' marks' (admitted n w)
   slots_admitted slots' grown marks' n new room more fresh zeros filled = grind (
-        arith,
-        common_steps,
-        labels,
-        items,
-        length-states,
-        length-map,
-        length-append,
-        length-replicate,
-        take_at,
-        states-copies,
-        map-append,
-        map-replicate,
-        fits-append,
-        fits-fresh,
-      )
+    arith,
+    common_steps,
+    labels,
+    items,
+    length-states,
+    length-map,
+    length-append,
+    length-replicate,
+    take_at,
+    states-copies,
+    map-append,
+    map-replicate,
+    fits-append,
+    fits-fresh,
+  )
 
   pub room_inside : (n : ℕ) → length w.indices + n ≤ w.limit → length (items kept) + n ≤ kept.limit
   room_inside n room = grind (arith, common_steps, items, length_shown)
@@ -292,17 +292,17 @@ module _ (kept : Inside) (w : Indexed Registration) (m : IsMarked kept.limit (st
   -- another label there, and still nobody
   pub next_unlabelled : (e : Entity) (label' : Names) → AgreeBeside e.index (labels kept) label' → next_entity w ≡ Some e → states label' (items kept) ≡ seen
   next_unlabelled e label' apart next = states_beside (labels kept) label' (items kept) e.index apart (λ s there. elim (next_is w e next) [
-        | inl free ↦
-            let shown : Some (state_of (labels kept e.index) s) ≡ Some (Free e.generation) =
-            sym (state_shown kept w view e.index (Some s) (sym there)) ∙ free in
-            let is : is_free (state_of (labels kept e.index) s) ≡ true = ap is_free (same_Some _ _ shown) in
-            free_slot (labels kept e.index) (label' e.index) s is ∙ sym (free_slot (labels kept e.index) (labels kept e.index) s is)
-        | inr fresh ↦
-            let within : e.index < length (items kept) = slice_get_within (items kept) e.index s there in
-            let known : length w.indices ≡ length (items kept) = length_shown in
-            let index : length w.indices ≡ e.index = ap (λ (x : Entity). x.index) fresh.1 in
-            absurd (omega arith)
-      ])
+    | inl free ↦
+        let shown : Some (state_of (labels kept e.index) s) ≡ Some (Free e.generation) =
+        sym (state_shown kept w view e.index (Some s) (sym there)) ∙ free in
+        let is : is_free (state_of (labels kept e.index) s) ≡ true = ap is_free (same_Some _ _ shown) in
+        free_slot (labels kept e.index) (label' e.index) s is ∙ sym (free_slot (labels kept e.index) (labels kept e.index) s is)
+    | inr fresh ↦
+        let within : e.index < length (items kept) = slice_get_within (items kept) e.index s there in
+        let known : length w.indices ≡ length (items kept) = length_shown in
+        let index : length w.indices ≡ e.index = ap (λ (x : Entity). x.index) fresh.1 in
+        absurd (omega arith)
+  ])
 
   -- it lives with this kept of it, and isn't marked
   pub slot_settled : (e : Entity) (label' : Names) (slots' : List Slot) (marks' : List Bool) (new : Slot) (r : Registration) →

@@ -1,22 +1,17 @@
 -- What an id may need never grows.
 use Rattle.std.proofs.Common.{◌≡◌, ℕ, zero, suc, ◌+◌, ◌<◌, ◌≤◌, ◌==◌, Bool, true, false, if◌then◌else◌, List, [], ◌∷◌, ◌++◌, length, slice_get}
 use Rattle.std.proofs.Common.{slice_set, replicate, refl, ap, ◌∙◌}
-use Rattle.std.proofs.Common.{Option, Some, None, inl, inr, arith, nat_lt, nat_le, Result, Ok, Err, IsTrue, MatchOption}
-use Rattle.std.proofs.lemmas.Bool.{cases_eq, cases_Bool, le-ltb, ltb-false, ltb-true, ne_eqb, MatchBool-at_true, MatchBool-at_false}
+use Rattle.std.proofs.Common.{Option, Some, None, inl, inr, arith, nat_lt}
+use Rattle.std.proofs.lemmas.Bool.{cases_eq, le-ltb, ltb-false, ltb-true, ne_eqb}
 use Rattle.std.proofs.lemmas.Option.{slice_get_within}
 use Rattle.eco_ids.specs.declared.entity.Entity.{Entity}
 use Rattle.eco_ids.specs.declared.id.Id.TheVariants.{One, Two}
 use Rattle.eco_ids.specs.declared.value.TheConstants.{FIELD_COUNT}
-use Rattle.eco_ids.specs.declared.refusal.Refusal.{Refusal}
-use Rattle.eco_ids.specs.declared.refusal.Refusal.TheVariants.{Taken, NoMoreIds}
-use Rattle.eco_ids.specs.Births.{may_make, Admits, may_admit, unfit_name}
-use Rattle.eco_ids.specs.Indices.{Indexed, IndexState, Retired, Free, Living, record_of, is_alive, is_free_at, next_entity, with_record, with_new, with_death}
-use Rattle.eco_ids.specs.Indices.{admitted, raised, changed, change_kept}
-use Rattle.eco_ids.specs.Outcome.{Refuses, Answers, is_out_of_memory}
-use Rattle.eco_ids.specs.Renaming.{unfit_rename, may_rename}
+use Rattle.eco_ids.specs.Indices.{Indexed, IndexState, Retired, Free, Living, record_of, is_alive, is_free_at, with_record, with_death}
+use Rattle.eco_ids.specs.Indices.{admitted, raised}
 use Rattle.eco_entities.specs.Needs.{fields_for, need_in, need_of, NeedsNeverGrow}
-use Rattle.eco_entities.specs.Registration.{Registration, newcomer, given_name, placed, renamed}
-use Rattle.eco_entities.specs.Runs.{Call, Create, Admit, MakeAlive, Kill, Rename, SetPlace, LeadsTo}
+use Rattle.eco_entities.specs.Registration.{Registration}
+use Rattle.eco_entities.specs.Runs.{Call, LeadsTo}
 use Rattle.eco_ids.proofs.Lists.{slice_get-set_same, slice_get-set_other}
 use Rattle.eco_ids.proofs.States.{living_at}
 use Rattle.eco_entities.proofs.States.{free_known, alive_known}

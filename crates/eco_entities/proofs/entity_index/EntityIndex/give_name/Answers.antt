@@ -1,7 +1,6 @@
 use Rattle.std.proofs.Common.{◌≡◌, ◌∙◌, refl, ap, sym, true, false, IsTrue, None, Some, is_some, option_map}
 use Rattle.std.proofs.lemmas.Option.{none-some}
 use Rattle.eco_ids.specs.Indices.{Indexed, changed, is_alive}
-use Rattle.eco_ids.specs.Names.{named_entity}
 use Rattle.eco_ids.specs.Renaming.{may_rename, own_name}
 use Rattle.eco_ids.proofs.Results.{err_says}
 use Rattle.eco_entities.specs.Label.{label_text}

@@ -1,7 +1,6 @@
 use Rattle.std.proofs.Common.{◌≡◌, ◌∙◌, ap, refl, sym, Some, is_some}
 use Rattle.eco_ids.specs.Indices.{Indexed, next_entity, with_new}
-use Rattle.eco_ids.specs.Names.{named_entity}
-use Rattle.eco_entities.specs.Registration.{Registration, given_name, newcomer}
+use Rattle.eco_entities.specs.Registration.{Registration, newcomer}
 use Rattle.eco_entities.specs.Registry.{entity_of}
 use Rattle.eco_entities.proofs.NamedEntities.{registry_shown}
 use Rattle.eco_entities.proofs.Owners.{own-new, own_of_next}

@@ -1,5 +1,5 @@
 use Rattle.std.proofs.lemmas.Grind.{common_steps}
-use Rattle.std.proofs.Common.{◌≡◌, ◌<◌, ◌/◌, ◌∙◌, sym, get_or, refl, arith, eqb-true, false}
+use Rattle.std.proofs.Common.{◌≡◌, ◌<◌, ◌/◌, ◌∙◌, sym, get_or, refl, arith, eqb-true}
 use Rattle.std.proofs.lemmas.Bool.{eqb-false}
 use Rattle.eco_entities.specs.Words.{without_bit}
 use Rattle.eco_entities.proofs.Bits.{length-without_bit, summarizes_emptied, summarizes_kept}

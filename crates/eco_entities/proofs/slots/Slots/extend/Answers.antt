@@ -1,5 +1,5 @@
 use Rattle.std.proofs.lemmas.Grind.{common_steps}
-use Rattle.std.proofs.Common.{◌≡◌, ◌+◌, ◌++◌, ap, ◌∙◌, length, replicate, arith}
+use Rattle.std.proofs.Common.{◌≡◌, ◌++◌, ap, ◌∙◌, length, replicate, arith}
 use Rattle.eco_ids.specs.Indices.{admitted}
 use Rattle.eco_entities.specs.Labels.{label_of}
 use Rattle.eco_entities.proofs.Marks.{ShowsMarked, marks_as_slots, room_inside, slots_admitted}

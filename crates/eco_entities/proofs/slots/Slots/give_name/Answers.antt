@@ -1,5 +1,5 @@
 use Rattle.std.proofs.lemmas.Grind.{common_steps}
-use Rattle.std.proofs.Common.{◌<◌, cond, length, set, ap, ◌∙◌, Some, None, option_map, arith}
+use Rattle.std.proofs.Common.{cond, set, ap, ◌∙◌, Some, None, option_map, arith}
 use Rattle.eco_ids.specs.Indices.{map_state}
 use Rattle.eco_entities.specs.Label.{label_text}
 use Rattle.eco_entities.specs.Labels.{label_of}

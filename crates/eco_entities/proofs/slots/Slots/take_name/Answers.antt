@@ -1,5 +1,5 @@
 use Rattle.std.proofs.lemmas.Grind.{common_steps}
-use Rattle.std.proofs.Common.{◌<◌, cond, length, set, ap, ◌∙◌, None, arith}
+use Rattle.std.proofs.Common.{cond, set, ap, ◌∙◌, None, arith}
 use Rattle.eco_entities.specs.Labels.{label_of}
 use Rattle.eco_entities.specs.Registration.{renamed}
 use Rattle.eco_ids.specs.Indices.{changed}

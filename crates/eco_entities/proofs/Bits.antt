@@ -263,8 +263,7 @@ none_of_none lower upper k s none =
 
 -- the place of a word with a bit lies within the words
 pub within_of_word : (ws : List ℕ) (w : ℕ) → 0 < get_or ws w 0 → w < length ws
-within_of_word ws w pos =
-    elim (cases_lt w (length ws)) [ inl l ↦ l | inr past ↦ absurd (let z : get_or ws w 0 ≡ 0 = get_or_past ws w 0 past in omega arith) ]
+within_of_word ws w pos = grind (arith, common_steps, cases_lt, get_or_past)
 
 -- the first word that has a bit, where the words are counted from n
 abbrev FirstFrom : ℕ → List ℕ → Option ℕ → Type 0
@@ -282,10 +281,7 @@ first_later n x ws (Some p) z rest =
 
 first_here : (n x : ℕ) (ws : List ℕ) (b : Bool) → nat_lt 0 x ≡ b → FirstFrom (n + 1) ws (position_from (λ w. nat_lt 0 w) (n + 1) ws) →
     FirstFrom n (x ∷ ws) (cond b (Some n) (position_from (λ w. nat_lt 0 w) (n + 1) ws))
-first_here n x ws true e rest =
-    let z : n - n ≡ 0 = omega arith in
-    (omega arith, rw z (ltb-true 0 x e), λ k l. absurd (omega (arith, l)))
-first_here n x ws false e rest = first_later n x ws _ (omega (arith, ltb-false 0 x e)) rest
+first_here n x ws b e rest = grind (arith, common_steps, ltb-true, ltb-false, first_later)
 
 pub first_from : (n : ℕ) (ws : List ℕ) → FirstFrom n ws (position_from (λ w. nat_lt 0 w) n ws)
 first_from n [] = λ k. refl

@@ -15,12 +15,8 @@ use Rattle.eco_entities.proofs.States.{free_known, alive_known, next_is}
 living_else : {A : Type 0} (f g : ℕ) (r : A) → g ≢ f → record_in (Some (Living f r)) g ≡ None
 living_else f g r ne = ap (λ b. cond b (Some r) None) (ne_eqb g f ne)
 
-raised_cases : (A : Type 0) (f g : ℕ) (b : Bool) → record_in {A = A} (Some (if b then Free (f + 1) else Retired)) g ≡ None
-raised_cases A f g true = refl
-raised_cases A f g false = refl
-
 raised_none : (A : Type 0) (f g : ℕ) → record_in {A = A} (Some (raised f)) g ≡ None
-raised_none A f g = raised_cases A f g (nat_lt f 65535)
+raised_none A f g = grind (arith, common_steps)
 
 -- at the index only what is kept of this handle changes
 pub record-set : {A : Type 0} (w : Indexed A) (e : Entity) (x y : IndexState A) → slice_get w.indices e.index ≡ Some y →

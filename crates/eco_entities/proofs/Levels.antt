@@ -70,9 +70,7 @@ flags_filled n from old new l f =
 
 pub flags_filled_from : (n from : ℕ) (old new : List ℕ) (xs : List Bool) → bits_below n old ≡ xs → from ≤ n → FillsBits from n old new →
     bits_below n new ≡ take from xs ++ replicate (length xs - from) true
-flags_filled_from n from old new xs e l f =
-    let whole : length xs ≡ n = ap length (sym e) ∙ length-bits_below n old in
-    rw whole (flags_filled n from old new l f ∙ ap (λ (ys : List Bool). take from ys ++ replicate (n - from) true) e)
+flags_filled_from n from old new xs e l f = grind (arith, common_steps, length-bits_below, flags_filled)
 
 -- more flags, none of them set
 pub flags_grown : (n m len : ℕ) (old new : List ℕ) → new ≡ old ++ replicate len 0 → ((k : ℕ) → n ≤ k → has_bit old k ≡ false) →
@@ -194,5 +192,4 @@ levelled_none = grind (arith, common_steps, bit_at-zero)
 
 -- only known indices are free
 pub below_len : (len : ℕ) (indices words groups : List ℕ) (k : ℕ) → IsLevelled len indices words groups → has_bit indices k ≡ true → k < len
-below_len len indices words groups k v set =
-    elim (cases_lt k len) [ inl l ↦ l | inr past ↦ absurd (false≢true (sym (v.past k past) ∙ set)) ]
+below_len len indices words groups k v set = grind (arith, common_steps, cases_lt)

@@ -29,10 +29,7 @@ pub record IsPast (w : Indexed Registration) (e : Entity) : Type 0 where
   pub state : IsPastIn (slice_get w.indices e.index) e.generation
 
 past_dead : (o : Option (IndexState Registration)) (g : ℕ) → IsPastIn o g → is_some (record_in o g) ≡ false
-past_dead None g h = refl
-past_dead (Some Retired) g h = refl
-past_dead (Some (Free f)) g h = refl
-past_dead (Some (Living f r)) g h = let ne : g ≢ f = omega arith in ap (λ b. is_some (cond b (Some r) None)) (ne_eqb g f ne)
+past_dead o g h = grind (arith, common_steps, ne_eqb)
 
 pub past_not_alive : (w : Indexed Registration) (e : Entity) → IsPast w e → is_alive w e ≡ false
 past_not_alive w e p = past_dead (slice_get w.indices e.index) e.generation p.state
@@ -42,8 +39,7 @@ past_known None g h = absurd h
 past_known (Some x) g h = (x, refl)
 
 raised_past : (f g : ℕ) (b : Bool) → g ≤ f → IsPastIn (Some (if b then Free (f + 1) else Retired)) g
-raised_past f g true l = omega arith
-raised_past f g false l = tt
+raised_past f g b l = grind (arith, common_steps)
 
 -- another state at some index, which is past too where it is this one
 past_put : (w : Indexed Registration) (e : Entity) (i : ℕ) (x : IndexState Registration) → IsPast w e → (i ≡ e.index → IsPastIn (Some x) e.generation) →

@@ -57,24 +57,16 @@ pub fits_at : (limit : ℕ) (xs : List (IndexState Registration)) (marks : List 
 fits_at limit xs marks i y m here = rw here at (m.fit i)
 
 pub fits-map_state : (change : Registration → Registration) (y : IndexState Registration) → GenerationFits (Some y) → GenerationFits (Some (map_state change y))
-fits-map_state change Retired f = f
-fits-map_state change (Free g) f = f
-fits-map_state change (Living g r) f = f
+fits-map_state change y f = grind (arith, common_steps)
 
 pub is_free-map_state : (change : Registration → Registration) (y : IndexState Registration) → is_free (map_state change y) ≡ is_free y
-is_free-map_state change Retired = refl
-is_free-map_state change (Free g) = refl
-is_free-map_state change (Living g r) = refl
+is_free-map_state change y = grind (arith, common_steps)
 
 abbrev with_state : ℕ → IndexState Registration → Indexed Registration → Indexed Registration
 with_state i x v = record v { indices = slice_set v.indices i x }
 
-fits_if : (A : Type 0) (g : ℕ) (b : Bool) → nat_lt g 65535 ≡ b → GenerationFits {A = A} (Some (if b then Free (g + 1) else Retired))
-fits_if A g true e = let below : g < 65535 = ltb-true g 65535 e in omega arith
-fits_if A g false e = tt
-
 pub fits-raised : (A : Type 0) (g : ℕ) → GenerationFits {A = A} (Some (raised g))
-fits-raised A g = fits_if A g (nat_lt g 65535) refl
+fits-raised A g = grind (arith, common_steps)
 
 -- who is made next
 

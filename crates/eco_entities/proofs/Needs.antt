@@ -1,4 +1,5 @@
 -- What an id may need never grows.
+use Rattle.std.proofs.lemmas.Grind.{common_steps}
 use Rattle.std.proofs.Common.{◌≡◌, ℕ, zero, suc, ◌+◌, ◌<◌, ◌≤◌, ◌==◌, Bool, true, false, if◌then◌else◌, List, [], ◌∷◌, ◌++◌, length, slice_get}
 use Rattle.std.proofs.Common.{slice_set, replicate, refl, ap, ◌∙◌}
 use Rattle.std.proofs.Common.{Option, Some, None, inl, inr, arith, nat_lt}
@@ -19,64 +20,23 @@ use Rattle.eco_entities.proofs.Calls.{called}
 
 -- ---- one state
 
-choice_few : (b : Bool) → (if b then 0 else FIELD_COUNT) ≤ FIELD_COUNT
-choice_few true = omega arith
-choice_few false = omega arith
-
 pub need_few : (o : Option (IndexState Registration)) (g : ℕ) → need_in o g ≤ FIELD_COUNT
-need_few None g = omega arith
-need_few (Some Retired) g = omega arith
-need_few (Some (Free f)) g = choice_few (nat_lt g f)
-need_few (Some (Living f r)) g = by (g == f)
-  where
-    by : (b : Bool) → (if b then fields_for r.arity else (if nat_lt g f then 0 else FIELD_COUNT)) ≤ FIELD_COUNT
-    by true = omega arith
-    by false = choice_few (nat_lt g f)
+need_few o g = grind (arith, common_steps)
 
 -- who comes to live at a free index
 need_settled : (f g : ℕ) (r : Registration) → need_in (Some (Living f r)) g ≤ need_in (Some (Free f)) g
-need_settled f g r = by (nat_lt g f) refl
-  where
-    by : (b : Bool) → nat_lt g f ≡ b → need_in (Some (Living f r)) g ≤ (if b then 0 else FIELD_COUNT)
-    by true h =
-        let below : g < f = ltb-true g f h in
-        let other : (g == f) ≡ false = ne_eqb g f (λ e. omega (arith, e)) in
-        rw (other, h) (omega arith)
-    by false h = need_few (Some (Living f r)) g
+need_settled f g r = grind (arith, common_steps, need_few, ne_eqb)
 
 -- who dies
 need_died : (f g : ℕ) (r : Registration) → need_in (Some (raised f)) g ≤ need_in (Some (Living f r)) g
-need_died f g r = by (nat_lt f 65535)
-  where
-    next : (b : Bool) → nat_lt g (f + 1) ≡ b → (if b then 0 else FIELD_COUNT) ≤ need_in (Some (Living f r)) g
-    next true h = omega arith
-    next false h =
-        let above : f + 1 ≤ g = ltb-false g (f + 1) h in
-        let other : (g == f) ≡ false = ne_eqb g f (λ e. omega (arith, above, e)) in
-        let passed : nat_lt g f ≡ false = le-ltb g f (omega (arith, above)) in
-        rw (other, passed) (omega arith)
-
-    by : (b : Bool) → need_in (Some (if b then Free (f + 1) else Retired)) g ≤ need_in (Some (Living f r)) g
-    by true = next (nat_lt g (f + 1)) refl
-    by false = omega arith
+need_died f g r = grind (arith, common_steps, ne_eqb, le-ltb)
 
 -- ---- the index
 
 -- another state at a known index, which needs no more
 need_put : (w : Indexed Registration) (i : ℕ) (x y : IndexState Registration) (e : Entity) → slice_get w.indices i ≡ Some y
     → ((g : ℕ) → need_in (Some x) g ≤ need_in (Some y) g) → need_of (record w { indices = slice_set w.indices i x }) e ≤ need_of w e
-need_put w i x y e was less =
-    elim (cases_eq e.index i) [
-      | inl same ↦
-          let within : i < length w.indices = slice_get_within w.indices i y was in
-          let now : slice_get (slice_set w.indices i x) e.index ≡ Some x =
-          ap (slice_get (slice_set w.indices i x)) same ∙ slice_get-set_same w.indices i x within in
-          let then_ : slice_get w.indices e.index ≡ Some y = ap (slice_get w.indices) same ∙ was in
-          rw (now, then_) (less e.generation)
-      | inr apart ↦
-          let stays : slice_get (slice_set w.indices i x) e.index ≡ slice_get w.indices e.index = slice_get-set_other w.indices i e.index x apart in
-          rw stays (omega arith)
-    ]
+need_put w i x y e was less = grind (arith, common_steps, cases_eq, slice_get_within, slice_get-set_same, slice_get-set_other)
 
 need_appended : (xs ys : List (IndexState Registration)) (i g : ℕ) → need_in (slice_get (xs ++ ys) i) g ≤ need_in (slice_get xs i) g
 need_appended [] ys i g = need_few (slice_get ys i) g

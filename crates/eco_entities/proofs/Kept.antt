@@ -1,11 +1,11 @@
 -- What is kept of each entity after a change of one state.
 use Rattle.std.proofs.lemmas.Grind.{common_steps}
-use Rattle.std.proofs.Common.{◌≡◌, ◌≢◌, ℕ, zero, suc, ◌+◌, ◌<◌, ◌≤◌, Bool, true, false, cond, List, [], ◌∷◌, ◌++◌, length, set, slice_get, slice_set, replicate}
+use Rattle.std.proofs.Common.{◌≡◌, ◌≢◌, ℕ, zero, suc, ◌<◌, ◌≤◌, true, cond, List, [], ◌∷◌, ◌++◌, length, set, slice_get, slice_set, replicate}
 use Rattle.std.proofs.Common.{refl, sym, ap, ◌∙◌, Some, None, inl, inr, arith, eq-eqb, nat_lt, if◌then◌else◌}
 use Rattle.std.proofs.lemmas.Bool.{cases_eq, ne_eqb, lt-ltb, le-ltb, cond-true, cond-false}
 use Rattle.std.proofs.lemmas.Option.{slice_get_within}
 use Rattle.eco_ids.specs.declared.entity.Entity.{Entity}
-use Rattle.eco_ids.specs.Indices.{Indexed, IndexState, Retired, Free, Living, record_in, record_of, is_alive, is_free_in, is_free_at, with_record, with_death}
+use Rattle.eco_ids.specs.Indices.{Indexed, IndexState, Free, Living, record_in, record_of, is_alive, is_free_in, is_free_at, with_record, with_death}
 use Rattle.eco_ids.specs.Indices.{with_new, admitted, raised, next_entity}
 use Rattle.eco_entities.specs.Changes.{ChangesAt, KeepsAnswers}
 use Rattle.eco_ids.proofs.Lists.{slice_get-set_same, slice_get-set_other}

@@ -1,16 +1,16 @@
 -- What an id may need never grows.
 use Rattle.std.proofs.lemmas.Grind.{common_steps}
-use Rattle.std.proofs.Common.{◌≡◌, ℕ, zero, suc, ◌+◌, ◌<◌, ◌≤◌, ◌==◌, Bool, true, false, if◌then◌else◌, List, [], ◌∷◌, ◌++◌, length, slice_get}
-use Rattle.std.proofs.Common.{slice_set, replicate, refl, ap, ◌∙◌}
-use Rattle.std.proofs.Common.{Option, Some, None, inl, inr, arith, nat_lt}
-use Rattle.std.proofs.lemmas.Bool.{cases_eq, le-ltb, ltb-false, ltb-true, ne_eqb}
+use Rattle.std.proofs.Common.{◌≡◌, ℕ, zero, suc, ◌≤◌, true, List, [], ◌∷◌, ◌++◌, slice_get}
+use Rattle.std.proofs.Common.{slice_set, replicate}
+use Rattle.std.proofs.Common.{Option, Some, arith}
+use Rattle.std.proofs.lemmas.Bool.{cases_eq, le-ltb, ne_eqb}
 use Rattle.std.proofs.lemmas.Option.{slice_get_within}
 use Rattle.eco_ids.specs.declared.entity.Entity.{Entity}
 use Rattle.eco_ids.specs.declared.id.Id.TheVariants.{One, Two}
 use Rattle.eco_ids.specs.declared.value.TheConstants.{FIELD_COUNT}
-use Rattle.eco_ids.specs.Indices.{Indexed, IndexState, Retired, Free, Living, record_of, is_alive, is_free_at, with_record, with_death}
+use Rattle.eco_ids.specs.Indices.{Indexed, IndexState, Free, Living, record_of, is_alive, is_free_at, with_record, with_death}
 use Rattle.eco_ids.specs.Indices.{admitted, raised}
-use Rattle.eco_entities.specs.Needs.{fields_for, need_in, need_of, NeedsNeverGrow}
+use Rattle.eco_entities.specs.Needs.{need_in, need_of, NeedsNeverGrow}
 use Rattle.eco_entities.specs.Registration.{Registration}
 use Rattle.eco_entities.specs.Runs.{Call, LeadsTo}
 use Rattle.eco_ids.proofs.Lists.{slice_get-set_same, slice_get-set_other}

@@ -1,6 +1,5 @@
 -- What pages of names are after each change, and copies of them.
-use Rattle.std.proofs.lemmas.Grind.{common_steps}
-use Rattle.std.proofs.Common.{arith, ◌≡◌, ℕ, Bool, true, false, cond, List, [], ◌∷◌, slice_get, get_or, refl, sym, ap, subst, ◌∙◌, Option, Some, None, option_map}
+use Rattle.std.proofs.Common.{arith, ◌≡◌, ℕ, Bool, true, cond, List, [], ◌∷◌, slice_get, get_or, refl, sym, ap, subst, ◌∙◌, Option, Some, None, option_map}
 use Rattle.std.specs.Prelude.{T}
 use Rattle.std.specs.List.{AllZip}
 use Rattle.std.specs.Map.{lookup}

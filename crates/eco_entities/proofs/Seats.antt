@@ -1,6 +1,6 @@
 -- Where an index's entry is among entries in their order, and what changes there.
 use Rattle.std.proofs.lemmas.Grind.{common_steps}
-use Rattle.std.proofs.Common.{◌≡◌, ℕ, zero, suc, ◌<◌, ◌≤◌, Bool, true, false, not, List, [], ◌∷◌, drop, slice_get}
+use Rattle.std.proofs.Common.{◌≡◌, ℕ, zero, suc, ◌<◌, ◌≤◌, Bool, true, not, List, [], ◌∷◌, drop, slice_get}
 use Rattle.std.proofs.Common.{refl, sym, ap, subst, ◌∙◌, Some, None, Result, Ok, Err, arith}
 use Rattle.std.specs.Prelude.{MatchResult}
 use Rattle.std.proofs.lemmas.Option.{none-some, same_Some}

@@ -3,7 +3,7 @@ use Rattle.std.proofs.lemmas.Grind.{common_steps}
 use Rattle.std.proofs.Common.{◌≡◌, ◌≢◌, ℕ, zero, suc, ◌<◌, ◌==◌, ◌&&◌, Bool, true, false, cond, if◌then◌else◌, List, [], ◌∷◌, ◌++◌, length, set, get_or}
 use Rattle.std.proofs.Common.{slice_get, replicate, refl, sym, ap, ◌∙◌, Option, Some, None, is_some, option_map, option_and_then, arith}
 use Rattle.std.proofs.lemmas.Bool.{false≢true}
-use Rattle.std.proofs.lemmas.Option.{none-some, same_Some, slice_get_read}
+use Rattle.std.proofs.lemmas.Option.{slice_get_read}
 use Rattle.eco_ids.specs.declared.entity.Entity.{Entity}
 use Rattle.eco_ids.specs.Indices.{Indexed, IndexState, Retired, Free, Living, record_in, record_of, is_alive, is_free_in, map_state}
 use Rattle.eco_ids.specs.Renaming.{own_name}
@@ -14,7 +14,6 @@ use Rattle.eco_entities.specs.Labels.{label_of}
 use Rattle.eco_entities.specs.declared.slot.Slot.{Slot}
 use Rattle.eco_entities.specs.declared.slots.Slots.TheInside.{Inside}
 use Rattle.eco_entities.specs.declared.slot.State.{State}
-use Rattle.eco_entities.specs.declared.slot.State.TheVariants as state
 
 -- names by index
 abbrev pub Names : Type 0

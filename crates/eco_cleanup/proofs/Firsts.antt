@@ -12,14 +12,10 @@ use Rattle.eco_ids.proofs.Facts.{or_parts, or_right}
 use Rattle.eco_cleanup.specs.Firsts.{counted, former}
 
 below : (r : Ordering) → IsTrue (is_lt r) → IsTrue (is_le r)
-below Less h = refl
-below Equal h = absurd (true≢false (sym h))
-below Greater h = absurd (true≢false (sym h))
+below r h = grind arith
 
 not_above : (r s : Ordering) → s ≡ ordering_reverse r → is_lt r ≡ false → IsTrue (is_le s)
-not_above Less s turned h = absurd (true≢false h)
-not_above Equal s turned h = ap is_le turned
-not_above Greater s turned h = ap is_le turned
+not_above r s turned h = grind arith
 
 module _ {A : Type 0} {R : A → A → Ordering} (o : IsTotalOrder R) where
   -- nothing passes, or it passes and is below all that do

@@ -1,5 +1,5 @@
 -- An objection that is found is one that the definitions know, and the least.
-use Rattle.std.proofs.Common.{◌≡◌, ℕ, Bool, true, false, not, ◌&&◌, List, Option, Some, None, refl, sym, ap, ◌∙◌, subst, true≢false, IsTrue, Ordering, Less}
+use Rattle.std.proofs.Common.{arith, ◌≡◌, ℕ, Bool, true, false, not, ◌&&◌, List, Option, Some, None, refl, sym, ap, ◌∙◌, subst, true≢false, IsTrue, Ordering, Less}
 use Rattle.std.proofs.Common.{Equal, Greater}
 use Rattle.std.specs.Cmp.{tied_itself}
 use Rattle.std.specs.List.{list_any}
@@ -34,9 +34,7 @@ use Rattle.eco_cleanup.proofs.Roles.{names_on_exact, names_on_names}
 use Rattle.eco_cleanup.proofs.Standing.{any_id, found_at, has_at, row_of, some_id, stands_among, stands_with}
 
 le_first : (r s : Ordering) → IsTrue (is_le (ordering_then r s)) → IsTrue (is_le r)
-le_first Less s h = refl
-le_first Equal s h = refl
-le_first Greater s h = h
+le_first r s h = grind arith
 
 le_second : (r s : Ordering) → r ≡ Equal → IsTrue (is_le (ordering_then r s)) → IsTrue (is_le s)
 le_second r s tie h = subst (λ x. IsTrue (is_le (ordering_then x s))) tie h

@@ -46,9 +46,7 @@ joined old more b = list_any-append _ old more
 
 -- two tests that hold for the same
 pub same_test : (a b : Bool) → IsTrue a ↔ IsTrue b → a ≡ b
-same_test true b f = sym (f.0 refl)
-same_test false true f = f.1 refl
-same_test false false f = refl
+same_test a b f = grind arith
 
 turned : (a b : Entity) → IsTrue (entity_eq a b) → IsTrue (entity_eq b a)
 turned a b h = subst (λ e. IsTrue (entity_eq e a)) (entity_eq_is a b h) (entity_eq_itself a)

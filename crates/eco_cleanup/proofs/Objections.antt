@@ -102,9 +102,7 @@ module _ (w : WorldState) (dead : List Entity) where
   -- ---- objections
 
   le_then : (r s : Ordering) → IsTrue (is_le r) → IsTrue (is_le s) → IsTrue (is_le (ordering_then r s))
-  le_then Less s h k = refl
-  le_then Equal s h k = k
-  le_then Greater s h k = h
+  le_then r s h k = grind arith
 
   pair_first : (p q : Entity → Bool) (h m : Option Entity) → IsFirst entity_cmp_total p h → IsFirst entity_cmp_total q m
       → IsFirst objection_cmp_total (λ o. p o.holder && q o.member) (objection w dead h m)

@@ -30,9 +30,7 @@ use Rattle.eco_world.specs.Refs.{StandsInRow}
 -- ---- an arity is one field at least
 
 proper_wide : (w : WorldState) (o : Option ℕ) → IsTrue (is_proper_arity w.edition o) → is_some o ≡ true → 1 ≤ fields_for o
-proper_wide w None proper some = absurd (true≢false (sym some))
-proper_wide w (Some zero) proper some = absurd (true≢false (sym proper))
-proper_wide w (Some (suc n)) proper some = omega arith
+proper_wide w o proper some = grind arith
 
 own_wide : (w : WorldState) → IsLawful w → (e : Entity) → is_some (arity_of w e) ≡ true → 1 ≤ fields_for (arity_of w e)
 own_wide w lawful e = by (record_of w e) refl

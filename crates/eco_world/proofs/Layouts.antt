@@ -93,12 +93,7 @@ type_ties a b same = ap (λ ids. is_eq (slice_cmp id_cmp a.ids ids)) (sym same) 
 -- ---- sorted tables of different types ascend
 
 below : (a b : ListedTable) → is_lt (by_type b a) ≡ false → same_type a b ≡ false → is_lt (by_type a b) ≡ true
-below a b not_less apart = by (by_type a b) (by_type_total.antisymm b a) apart
-  where
-    by : (r : Ordering) → by_type b a ≡ ordering_reverse r → is_eq r ≡ false → is_lt r ≡ true
-    by Less back e = refl
-    by Equal back e = absurd (true≢false e)
-    by Greater back e = absurd (true≢false (sym (ap is_lt back) ∙ not_less))
+below a b not_less apart = let back = by_type_total.antisymm b a in grind arith
 
 all_below : (a : TableRows) (ts : List TableRows) → ((k : ℕ) (d : TableRows) → k < length ts →
     is_lt (by_type (listed_of (get_or ts k d)) (listed_of a)) ≡ false)

@@ -1,7 +1,7 @@
 -- The least of what may be there passes, and is below all that pass.
 use Rattle.std.proofs.lemmas.Grind.{common_steps}
 use Rattle.std.proofs.Common.{◌≡◌, Bool, true, false, cond, ◌||◌, inl, inr, List, [], ◌∷◌, fold, Option, Some, None, refl, sym, ap, ◌∙◌, subst, true≢false}
-use Rattle.std.proofs.Common.{IsTrue, Ordering, Less, Equal, Greater, arith}
+use Rattle.std.proofs.Common.{IsTrue, Ordering, arith}
 use Rattle.std.proofs.Math.Bool.{or-false, or_assoc}
 use Rattle.std.proofs.lemmas.Bool.{or_left}
 use Rattle.std.specs.Bool.{IsFalse}

@@ -1,6 +1,6 @@
 -- An objection that is found is one that the definitions know, and the least.
-use Rattle.std.proofs.Common.{arith, ◌≡◌, ℕ, Bool, true, false, not, ◌&&◌, List, Option, Some, None, refl, sym, ap, ◌∙◌, subst, true≢false, IsTrue, Ordering, Less}
-use Rattle.std.proofs.Common.{Equal, Greater}
+use Rattle.std.proofs.Common.{arith, ◌≡◌, ℕ, Bool, true, false, not, ◌&&◌, List, Option, Some, None, refl, sym, ap, ◌∙◌, subst, true≢false, IsTrue, Ordering}
+use Rattle.std.proofs.Common.{Equal}
 use Rattle.std.specs.Cmp.{tied_itself}
 use Rattle.std.specs.List.{list_any}
 use Rattle.std.specs.Ordering.{is_le, ordering_then}

@@ -1,6 +1,6 @@
 -- Whether some living entity has a pair.
 use Rattle.std.proofs.Math.Bool.{and-true}
-use Rattle.std.proofs.Common.{true≢false, ◌≡◌, Bool, true, false, ◌||◌, ◌&&◌, List, [], ◌∷◌, is_some, refl, sym, ap, ◌∙◌, IsTrue, ◌↔◌}
+use Rattle.std.proofs.Common.{true≢false, ◌≡◌, Bool, false, ◌||◌, List, [], ◌∷◌, is_some, refl, sym, ap, ◌∙◌, IsTrue, ◌↔◌}
 use Rattle.std.proofs.lemmas.Bool.{false_from_ne_true}
 use Rattle.std.specs.List.{list_any}
 use Rattle.std.specs.FinMap.Entries.{find}

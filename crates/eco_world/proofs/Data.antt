@@ -1,5 +1,5 @@
 -- What is data has fields in the tables, and so its values are found there.
-use Rattle.std.proofs.Common.{◌≡◌, ◌≤◌, ◌<◌, ℕ, zero, suc, Bool, true, false, not, ◌&&◌, ◌||◌, ◌==◌, nat_lt, List, [], ◌∷◌, get_or, length, Option}
+use Rattle.std.proofs.Common.{◌≡◌, ◌≤◌, ◌<◌, ℕ, Bool, true, false, not, ◌&&◌, ◌||◌, ◌==◌, nat_lt, List, [], ◌∷◌, get_or, length, Option}
 use Rattle.std.proofs.Common.{None, Some, is_some, option_and_then, option_map, unwrap_or, if◌then◌else◌, IfSome, IsSome, IsTrue, MatchOption}
 use Rattle.std.proofs.Common.{arith, refl, sym, ap, subst, ◌∙◌, true≢false}
 use Rattle.std.specs.Option.{option_or}

@@ -1,5 +1,5 @@
 -- Who has an id, as a store finds them by the pattern of that id.
-use Rattle.std.proofs.Common.{if◌then◌else◌, ◌≡◌, true, false, cond, ◌||◌, List, [], ◌∷◌, map, filter, Some, refl, ap, ◌∙◌, is_some}
+use Rattle.std.proofs.Common.{◌≡◌, true, false, cond, ◌||◌, List, [], ◌∷◌, map, filter, Some, refl, ap, ◌∙◌, is_some}
 use Rattle.std.specs.List.{list_any}
 use Rattle.std.specs.FinMap.Entries.{find}
 use Rattle.eco_ids.specs.declared.entity.Entity.{Entity}

@@ -1,6 +1,6 @@
 -- What the first difference of two types decides.
-use Rattle.std.proofs.Common.{◌≡◌, ℕ, ◌+◌, ◌<◌, suc, zero, Bool, true, false, cond, nat_eq, nat_lt, List, [], ◌∷◌, length, get_or, min, Some, None}
-use Rattle.std.proofs.Common.{refl, sym, ap, ◌∙◌, arith, true≢false, is_some, is_lt, unwrap_or, Ordering, Less, Equal, Greater, le_of_suc-le-suc}
+use Rattle.std.proofs.Common.{◌≡◌, ℕ, ◌+◌, ◌<◌, suc, zero, Bool, nat_lt, List, [], ◌∷◌, length, get_or, min, Some, None}
+use Rattle.std.proofs.Common.{refl, ap, ◌∙◌, arith, is_lt, Ordering, le_of_suc-le-suc}
 use Rattle.std.proofs.Math.ListN.{drop}
 use Rattle.std.specs.Cmp.Lexicographic.{slice_cmp}
 use Rattle.std.specs.Ordering.{nat_cmp, ordering_then}

@@ -83,11 +83,11 @@ module _ (v : Indexed Record) (slots : List (Option TableState)) (shown : IsShow
   pub named_there : (m : Entity) (n : ℕ) → IsTrue (has_item entity_cmp (taken_among slots keys) m) → IsTrue (is_naming slots m n) → is_falling keys n ≡ false
       → (b : Bool) → falls (world_of v) slots m n ≡ b → IsTrue (is_one_of keys (Named n))
   named_there m n dies found spared true falling =
-      absurd
-      (true≢false
-      (sym (touched_there v slots shown starts keys begin exact m (Falling n) dies (both (is_naming slots m n) (falls (world_of v) slots m n) found falling)) ∙ spared))
+      absurd (true≢false (sym (touched_there v slots shown starts keys begin exact m (Falling n) dies
+      (both (is_naming slots m n) (falls (world_of v) slots m n) found falling)) ∙ spared))
   named_there m n dies found spared false falling =
-      touched_there v slots shown starts keys begin exact m (Named n) dies (both (is_naming slots m n) (not (falls (world_of v) slots m n)) found (ap not falling))
+      touched_there v slots shown starts keys begin exact m (Named n) dies
+      (both (is_naming slots m n) (not (falls (world_of v) slots m n)) found (ap not falling))
 
   objects_if : (h m : Entity) → Forbids (world_of v) members h m → IsTrue (some_objects (record { holder = h; member = m }))
   objects_if h m forbids =

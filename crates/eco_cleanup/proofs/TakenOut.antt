@@ -60,7 +60,8 @@ all_changed cs r = fold (λ x c. changed_record c x) r cs
 
 other_type : (c : TypeChange) (r : Record) → record_ids r ≢ c.from → changed_record c r ≡ r
 other_type c r other =
-    ap (λ b. cond b (with_type c.to r) r) (false_from_ne_true (same_ids (record_ids r) c.from) (λ same. other ((same_ids-Decides (record_ids r) c.from).0 same)))
+    ap (λ b. cond b (with_type c.to r) r)
+    (false_from_ne_true (same_ids (record_ids r) c.from) (λ same. other ((same_ids-Decides (record_ids r) c.from).0 same)))
 
 module _ (goes : Id → Bool) where
   abbrev stays : Id → Bool

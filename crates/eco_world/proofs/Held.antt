@@ -1,6 +1,6 @@
 -- Ids with values, in the order of the ids.
-use Rattle.std.proofs.Common.{arith, ◌≡◌, Bool, true, false, cond, not, ◌&&◌, T, List, [], ◌∷◌, map, Option, Some, None, option_map, unwrap_or, refl, sym, ap, ◌∙◌}
-use Rattle.std.proofs.Common.{subst, is_some, is_eq, is_lt, Ordering, Less, Equal, Greater, true≢false}
+use Rattle.std.proofs.Common.{arith, ◌≡◌, Bool, true, false, cond, not, ◌&&◌, T, List, [], ◌∷◌, map, Option, Some, None, option_map, unwrap_or, refl, sym, ap}
+use Rattle.std.proofs.Common.{◌∙◌, subst, is_some, is_eq, is_lt, Ordering, Less, Equal, Greater, true≢false}
 use Rattle.std.proofs.lemmas.Option.{same_Some, none-some}
 use Rattle.std.specs.FinMap.Entries.{find, put, by_order, where_key, is_sorted, below_all, is_sorted-where_key, find-where_key}
 use Rattle.eco_ids.specs.declared.id.Id.{Id}

@@ -8,8 +8,8 @@ use Rattle.eco_entities.proofs.slots.Slots.extend.Goals as goal
 use Rattle.eco_entities.proofs.slots.Slots.extend.Goals.{After-push_copies}
 
 -- the free indices are there, and marked
-admitted_there : (c : goal.After-push_copies) → ShowsMarked c.self.inside.limit (label_of c.self.inside.labels) c.push_copies.new.slots.items c.insert_from.new.self
-    (admitted c.args.count c.args.self.now)
+admitted_there : (c : goal.After-push_copies) → ShowsMarked c.self.inside.limit (label_of c.self.inside.labels) c.push_copies.new.slots.items
+    c.insert_from.new.self (admitted c.args.count c.args.self.now)
 admitted_there c =
     let known : c.len-known.result ≡ length c.self.inside.slots.items = omega arith in
     slots_admitted c.self.inside c.args.self.now c.self.invariant c.self.view_is _ _ _ c.args.count c.free.result

@@ -11,7 +11,8 @@ returns-then-is_free c =
     let is = rw c.as_slice.ensures.value at c.slot_at.ensures in
     ap (λ g. g == e.generation) c.generation.ensures
     ∙ sym (ap (λ o. is_free_in o e.generation)
-    (free_shown c.self.inside c.args.self.now c.self.view_is e.index c.in-Some.slot (sym c.in-Some.is ∙ is) (sym (c.if-is_free.ensures (label_of c.self.inside.labels e.index)))))
+    (free_shown c.self.inside c.args.self.now c.self.view_is e.index c.in-Some.slot (sym c.in-Some.is ∙ is)
+    (sym (c.if-is_free.ensures (label_of c.self.inside.labels e.index)))))
 
 pub returns-else-is_free : goal.returns-else-is_free
 returns-else-is_free c =

@@ -78,8 +78,8 @@ mirrored : (c : goal.In-Some) → IsGrown c.args.self.now c.args.entity c.args.i
     (Some c.in-Some.mirror))
 mirrored c =
     found_mirrored c.args.self.now c.args.entity c.args.id c.requires.alive c.requires.free c.is_lawful.ensures
-    (c.steps_keep_lawful.ensures.add c.args.entity c.args.id) c.add_leaves_exactly.ensures c.requires.absent c.in_ok-target.target _ c.in_ok-target.ensures.target
-    (other c.args.self.now c.args.entity c.args.id _ _ c.in-Some.is c.other_mirror.ensures)
+    (c.steps_keep_lawful.ensures.add c.args.entity c.args.id) c.add_leaves_exactly.ensures c.requires.absent c.in_ok-target.target _
+    c.in_ok-target.ensures.target (other c.args.self.now c.args.entity c.args.id _ _ c.in-Some.is c.other_mirror.ensures)
 
 pub gain_both-requires-clause-lawful : goal.gain_both-requires-clause-lawful
 gain_both-requires-clause-lawful c = (mirrored (goal.at.gain_both-requires-clause-lawful c).In-Some).lawful

@@ -1,7 +1,8 @@
 -- Who dies by the nodes that the search finds is who is doomed.
-use Rattle.std.proofs.Common.{◌≡◌, ◌≢◌, ℕ, Bool, true, false, ◌↔◌, ◌||◌, inl, inr, List, [], ◌∷◌, map, Option, Some, refl, sym, ap, ◌∙◌, subst, true≢false}
+use Rattle.std.proofs.Common.{◌≡◌, ◌≢◌, ℕ, Bool, false, ◌↔◌, ◌||◌, inl, inr, List, [], ◌∷◌, map, Option, Some, refl, sym, ap, ◌∙◌, subst, true≢false}
 use Rattle.std.proofs.Common.{IsTrue}
 use Rattle.std.proofs.Math.Bool.{or-false}
+use Rattle.std.proofs.lemmas.Bool.{false_from_ne_true}
 use Rattle.std.proofs.lemmas.List.Folds.{list_any-append}
 use Rattle.std.specs.List.{list_any}
 use Rattle.eco_ids.specs.declared.entity.Entity.{Entity}
@@ -162,18 +163,11 @@ module _ (v : Indexed Record) (slots : List (Option TableState)) (shown : IsShow
   taken_doomed (Falling n) meant e takes = meant e takes
   taken_doomed (Named n) meant e takes = absurd (true≢false (sym takes))
 
-  -- the tables follow whose types name one who dies by a node
-  pub falls_next : (a : Node) (m : Entity) (n : ℕ) → Takes slots a m → IsTrue (touches (world_of v) slots m (Falling n))
-      → IsTrue (leads (world_of v) slots a (Falling n))
-  falls_next (Root x) m n takes h = subst (λ y. IsTrue (touches (world_of v) slots y (Falling n))) (sym (one_is x m takes)) h
-  falls_next (Falling k) m n takes h = any_entity (λ e. touches (world_of v) slots e (Falling n)) (entities_of (table_in slots k).rows) m takes h
-  falls_next (Named k) m n takes h = takes
-
-  pub named_next : (a : Node) (m : Entity) (n : ℕ) → Takes slots a m → IsTrue (touches (world_of v) slots m (Named n))
-      → IsTrue (leads (world_of v) slots a (Named n))
-  named_next (Root x) m n takes h = subst (λ y. IsTrue (touches (world_of v) slots y (Named n))) (sym (one_is x m takes)) h
-  named_next (Falling k) m n takes h = any_entity (λ e. touches (world_of v) slots e (Named n)) (entities_of (table_in slots k).rows) m takes h
-  named_next (Named k) m n takes h = takes
+  -- what one who dies by a node touches follows
+  pub touched_next : (a : Node) (m : Entity) (b : Node) → Takes slots a m → IsTrue (touches (world_of v) slots m b) → IsTrue (leads (world_of v) slots a b)
+  touched_next (Root x) m b takes h = subst (λ y. IsTrue (touches (world_of v) slots y b)) (sym (one_is x m takes)) h
+  touched_next (Falling k) m b takes h = any_entity (λ e. touches (world_of v) slots e b) (entities_of (table_in slots k).rows) m takes h
+  touched_next (Named k) m b takes h = takes
 
   -- it dies by some node that is found
   abbrev Dies : Entity → Type 0
@@ -189,7 +183,7 @@ module _ (v : Indexed Record) (slots : List (Option TableState)) (shown : IsShow
       let falling = any_id (names_on (world_of v) DELETE m) ids holds.0 row.5 on in
       let found = found_at (λ ids. type_names ids m) (slot_of slots n) row.1 row.2 row.3 named in (
         Falling n,
-        next {b = Falling n} dies.1 (falls_next dies.0 m n dies.2 (both (is_naming slots m n) (falls (world_of v) slots m n) found falling)),
+        next {b = Falling n} dies.1 (touched_next dies.0 m (Falling n) dies.2 (both (is_naming slots m n) (falls (world_of v) slots m n) found falling)),
         subst (λ x. Standing n x) row.4 (stands_among (table_in slots n).rows row.1 row.2 row.3),
       )
 
@@ -211,24 +205,15 @@ module _ (v : Indexed Record) (slots : List (Option TableState)) (shown : IsShow
     λ d. let one = complete v slots shown starts begin d in by_one slots keys e one.0 ((exact one.0).1 one.1) one.2,
   )
 
-  -- a table whose type names one who dies is found, in its kind
-  pub touched_there : (m : Entity) (n : ℕ) → IsTrue (has_item entity_cmp (taken_among slots keys) m) → IsTrue (touches (world_of v) slots m (Falling n))
-      → IsTrue (is_falling keys n)
-  touched_there m n dies h =
+  -- what one who dies touches is found
+  pub touched_there : (m : Entity) (b : Node) → IsTrue (has_item entity_cmp (taken_among slots keys) m) → IsTrue (touches (world_of v) slots m b)
+      → IsTrue (is_one_of keys b)
+  touched_there m b dies h =
       let one = by_which slots keys m dies in
-      (exact (Falling n)).1 (next {b = Falling n} ((exact one.0).0 one.1) (falls_next v slots shown starts begin one.0 m n one.2 h))
-
-  pub named_found : (m : Entity) (n : ℕ) → IsTrue (has_item entity_cmp (taken_among slots keys) m) → IsTrue (touches (world_of v) slots m (Named n))
-      → IsTrue (is_one_of keys (Named n))
-  named_found m n dies h =
-      let one = by_which slots keys m dies in
-      (exact (Named n)).1 (next {b = Named n} ((exact one.0).0 one.1) (named_next v slots shown starts begin one.0 m n one.2 h))
+      (exact b).1 (next {b = b} ((exact one.0).0 one.1) (touched_next v slots shown starts begin one.0 m b one.2 h))
 
   -- the table of who does not die stays
   pub spare : (h : Entity) (n : ℕ) → IsTrue (has_item entity_cmp (entities_of (table_in slots n).rows) h)
       → has_item entity_cmp (taken_among slots keys) h ≡ false → is_falling keys n ≡ false
-  spare h n standing outside = by (is_falling keys n) refl
-    where
-      by : (b : Bool) → is_falling keys n ≡ b → is_falling keys n ≡ false
-      by true is = absurd (true≢false (sym (by_one slots keys h (Falling n) is standing) ∙ outside))
-      by false is = is
+  spare h n standing outside =
+      false_from_ne_true (is_falling keys n) (λ is. true≢false (sym (by_one slots keys h (Falling n) is standing) ∙ outside))

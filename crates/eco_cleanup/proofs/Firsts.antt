@@ -1,7 +1,7 @@
 -- The least of what may be there passes, and is below all that pass.
 use Rattle.std.proofs.lemmas.Grind.{common_steps}
 use Rattle.std.proofs.Common.{◌≡◌, Bool, true, false, cond, ◌||◌, inl, inr, List, [], ◌∷◌, fold, Option, Some, None, refl, sym, ap, ◌∙◌, subst, true≢false}
-use Rattle.std.proofs.Common.{IsTrue, Ordering, Less, Equal, Greater, arith}
+use Rattle.std.proofs.Common.{IsTrue, Ordering, arith}
 use Rattle.std.proofs.Math.Bool.{or-false, or_assoc}
 use Rattle.std.proofs.lemmas.Bool.{or_left}
 use Rattle.std.specs.Bool.{IsFalse}
@@ -12,14 +12,10 @@ use Rattle.eco_ids.proofs.Facts.{or_parts, or_right}
 use Rattle.eco_cleanup.specs.Firsts.{counted, former}
 
 below : (r : Ordering) → IsTrue (is_lt r) → IsTrue (is_le r)
-below Less h = refl
-below Equal h = absurd (true≢false (sym h))
-below Greater h = absurd (true≢false (sym h))
+below r h = grind arith
 
 not_above : (r s : Ordering) → s ≡ ordering_reverse r → is_lt r ≡ false → IsTrue (is_le s)
-not_above Less s turned h = absurd (true≢false h)
-not_above Equal s turned h = ap is_le turned
-not_above Greater s turned h = ap is_le turned
+not_above r s turned h = grind arith
 
 module _ {A : Type 0} {R : A → A → Ordering} (o : IsTotalOrder R) where
   -- nothing passes, or it passes and is below all that do

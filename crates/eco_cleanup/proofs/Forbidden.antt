@@ -1,6 +1,6 @@
 -- An objection that is found is one that the definitions know, and the least.
-use Rattle.std.proofs.Common.{◌≡◌, ℕ, Bool, true, false, not, ◌&&◌, List, Option, Some, None, refl, sym, ap, ◌∙◌, subst, true≢false, IsTrue, Ordering, Less}
-use Rattle.std.proofs.Common.{Equal, Greater}
+use Rattle.std.proofs.Common.{arith, ◌≡◌, ℕ, Bool, true, false, not, ◌&&◌, List, Option, Some, None, refl, sym, ap, ◌∙◌, subst, true≢false, IsTrue, Ordering}
+use Rattle.std.proofs.Common.{Equal}
 use Rattle.std.specs.Cmp.{tied_itself}
 use Rattle.std.specs.List.{list_any}
 use Rattle.std.specs.Ordering.{is_le, ordering_then}
@@ -26,7 +26,7 @@ use Rattle.eco_cleanup.specs.contracts.node.NodePartialEq.TheImpl as node_impl
 use Rattle.eco_cleanup.specs.declared.node.Node.{Node}
 use Rattle.eco_cleanup.specs.declared.node.Node.TheVariants.{Root, Falling, Named}
 use Rattle.eco_cleanup.specs.declared.objection.Objection.{Objection}
-use Rattle.eco_cleanup.proofs.Deaths.{doomed_exactly, named_found, spare, touched_there}
+use Rattle.eco_cleanup.proofs.Deaths.{doomed_exactly, spare, touched_there}
 use Rattle.eco_cleanup.proofs.Firsts.{IsFirst}
 use Rattle.eco_cleanup.proofs.Noted.{same_test}
 use Rattle.eco_cleanup.proofs.Objections.{objection_cmp_total, objection_first, objects, objects_at}
@@ -34,9 +34,7 @@ use Rattle.eco_cleanup.proofs.Roles.{names_on_exact, names_on_names}
 use Rattle.eco_cleanup.proofs.Standing.{any_id, found_at, has_at, row_of, some_id, stands_among, stands_with}
 
 le_first : (r s : Ordering) → IsTrue (is_le (ordering_then r s)) → IsTrue (is_le r)
-le_first Less s h = refl
-le_first Equal s h = refl
-le_first Greater s h = h
+le_first r s h = grind arith
 
 le_second : (r s : Ordering) → r ≡ Equal → IsTrue (is_le (ordering_then r s)) → IsTrue (is_le s)
 le_second r s tie h = subst (λ x. IsTrue (is_le (ordering_then x s))) tie h
@@ -85,11 +83,11 @@ module _ (v : Indexed Record) (slots : List (Option TableState)) (shown : IsShow
   pub named_there : (m : Entity) (n : ℕ) → IsTrue (has_item entity_cmp (taken_among slots keys) m) → IsTrue (is_naming slots m n) → is_falling keys n ≡ false
       → (b : Bool) → falls (world_of v) slots m n ≡ b → IsTrue (is_one_of keys (Named n))
   named_there m n dies found spared true falling =
-      absurd
-      (true≢false
-      (sym (touched_there v slots shown starts keys begin exact m n dies (both (is_naming slots m n) (falls (world_of v) slots m n) found falling)) ∙ spared))
+      absurd (true≢false (sym (touched_there v slots shown starts keys begin exact m (Falling n) dies
+      (both (is_naming slots m n) (falls (world_of v) slots m n) found falling)) ∙ spared))
   named_there m n dies found spared false falling =
-      named_found v slots shown starts keys begin exact m n dies (both (is_naming slots m n) (not (falls (world_of v) slots m n)) found (ap not falling))
+      touched_there v slots shown starts keys begin exact m (Named n) dies
+      (both (is_naming slots m n) (not (falls (world_of v) slots m n)) found (ap not falling))
 
   objects_if : (h m : Entity) → Forbids (world_of v) members h m → IsTrue (some_objects (record { holder = h; member = m }))
   objects_if h m forbids =

@@ -2,11 +2,12 @@
 use Rattle.std.proofs.Common.{◌≡◌, ℕ, zero, suc, ◌+◌, ◌<◌, get_or, length, take, Bool, true, false, cond, not, nat_eq, nat_lt, ◌&&◌, ◌||◌, ◌↔◌, ◌⊎◌, inl, inr}
 use Rattle.std.proofs.Common.{List, [], ◌∷◌, ◌++◌, map, filter, flat_map, Option, Some, None}
 use Rattle.std.proofs.Common.{unwrap_or, option_map, is_some, refl, sym, ap, ◌∙◌, subst, true≢false, IsTrue, arith}
-use Rattle.std.proofs.Math.Bool.{or-false}
+use Rattle.std.proofs.Math.Bool.{and-false, and-true, or-false, or_assoc}
 use Rattle.std.proofs.Math.Seq.{take-suc}
 use Rattle.std.proofs.lemmas.Bool.{or_left}
 use Rattle.std.proofs.lemmas.Bool.Decides.{Decides-eqb}
 use Rattle.std.proofs.lemmas.List.Folds.{list_any-append}
+use Rattle.std.proofs.lemmas.Map.Views.{any-filter_same}
 use Rattle.std.specs.List.{list_any}
 use Rattle.eco_ids.specs.declared.entity.Entity.{Entity}
 use Rattle.eco_ids.specs.declared.id.Id.{Id}
@@ -43,14 +44,15 @@ joined old more b = list_any-append _ old more
 
 -- ---- kinds of nodes
 
+-- two tests that hold for the same
+pub same_test : (a b : Bool) → IsTrue a ↔ IsTrue b → a ≡ b
+same_test a b f = grind arith
+
+turned : (a b : Entity) → IsTrue (entity_eq a b) → IsTrue (entity_eq b a)
+turned a b h = subst (λ e. IsTrue (entity_eq e a)) (entity_eq_is a b h) (entity_eq_itself a)
+
 pub entity_eq_turns : (a b : Entity) → entity_eq a b ≡ entity_eq b a
-entity_eq_turns a b = by (entity_eq a b) (entity_eq b a) refl refl
-  where
-    by : (x y : Bool) → entity_eq a b ≡ x → entity_eq b a ≡ y → x ≡ y
-    by true true p q = refl
-    by false false p q = refl
-    by true false p q = sym (subst (λ e. IsTrue (entity_eq e a)) (entity_eq_is a b p) (entity_eq_itself a)) ∙ q
-    by false true p q = sym p ∙ subst (λ e. IsTrue (entity_eq e b)) (entity_eq_is b a q) (entity_eq_itself b)
+entity_eq_turns a b = same_test (entity_eq a b) (entity_eq b a) (turned a b, turned b a)
 
 -- nodes of one kind are none of another
 pub no_others : {A : Type 0} (kind : A → Node) (xs : List A) (b : Node) → ((x : A) → same_node b (kind x) ≡ false) → is_one_of (map kind xs) b ≡ false
@@ -72,57 +74,27 @@ pub tables_are : (ns : List ℕ) (n : ℕ) → is_one_of (map Falling ns) (Falli
 tables_are [] n = refl
 tables_are (k ∷ ns) n = ap (λ t. nat_eq n k || t) (tables_are ns n)
 
--- two tests that hold for the same
-pub same_test : (a b : Bool) → IsTrue a ↔ IsTrue b → a ≡ b
-same_test true b f = sym (f.0 refl)
-same_test false true f = f.1 refl
-same_test false false f = refl
+spread : (a b p : Bool) → ((a && p) || (b && p)) ≡ ((a || b) && p)
+spread a b p = grind arith
 
 -- a test that is asked of each
 pub spread_right : (m : Bool) {B : Type 0} (t : B → Bool) (bs : List B) → list_any (λ b. t b && m) bs ≡ (list_any t bs && m)
 spread_right m t [] = refl
-spread_right m t (b ∷ bs) = by (t b) (spread_right m t bs)
-  where
-    by : (x : Bool) → list_any (λ b. t b && m) bs ≡ (list_any t bs && m) → ((x && m) || list_any (λ b. t b && m) bs) ≡ ((x || list_any t bs) && m)
-    by false rest = rest
-    by true rest = absorbed m (list_any t bs) (list_any (λ b. t b && m) bs) rest
-      where
-        absorbed : (m any each : Bool) → each ≡ (any && m) → (m || each) ≡ m
-        absorbed true any each is = refl
-        absorbed false true each is = is
-        absorbed false false each is = is
+spread_right m t (b ∷ bs) = ap (λ x. (t b && m) || x) (spread_right m t bs) ∙ spread (t b) (list_any t bs) m
 
 -- ---- tables that name an entity
 
 abbrev listed : List ℕ → ℕ → Bool
 listed found n = list_any (nat_eq n) found
 
-any_filtered : (p : ℕ → Bool) (ns : List ℕ) (k : ℕ) → listed (filter p ns) k ≡ (listed ns k && p k)
-any_filtered p [] k = refl
-any_filtered p (n ∷ ns) k = by (p n) (nat_eq k n) refl refl (any_filtered p ns k)
-  where
-    by : (b s : Bool) → p n ≡ b → nat_eq k n ≡ s → listed (filter p ns) k ≡ (listed ns k && p k)
-        → listed (cond b (n ∷ filter p ns) (filter p ns)) k ≡ ((s || listed ns k) && p k)
-    by true true is same rest = ap (λ t. t || listed (filter p ns) k) same ∙ sym (ap p ((Decides-eqb k n).0 same) ∙ is)
-    by true false is same rest = ap (λ t. t || listed (filter p ns) k) same ∙ rest
-    by false true is same rest = rest ∙ none (listed ns k) (p k) (ap p ((Decides-eqb k n).0 same) ∙ is)
-      where
-        none : (l q : Bool) → q ≡ false → (l && q) ≡ q
-        none true q h = refl
-        none false q h = sym h
-    by false false is same rest = rest
+any_filtered : (p : ℕ → Bool) (ns : List ℕ) (k : ℕ) → listed (filter p ns) k ≡ (p k && listed ns k)
+any_filtered p ns k = any-filter_same (nat_eq k) p (p k) (λ n same. ap p (sym ((Decides-eqb k n).0 same))) ns
 
 -- a table is found by its type and its rows
 found_parts : (p : Pattern) (o : Option TableState)
-    → (type_matches (option_map (λ (t : TableState). t.ids) o) p && nat_lt 0 (length (unwrap_or o no_table).rows)) ≡ is_found p o
+    → (nat_lt 0 (length (unwrap_or o no_table).rows) && type_matches (option_map (λ (t : TableState). t.ids) o) p) ≡ is_found p o
 found_parts p None = refl
-found_parts p (Some t) = turned (list_any (pattern_matches p) t.ids) (nat_lt 0 (length t.rows))
-  where
-    turned : (a b : Bool) → (a && b) ≡ (b && a)
-    turned true true = refl
-    turned true false = refl
-    turned false true = refl
-    turned false false = refl
+found_parts p (Some t) = refl
 
 -- an id names the entity where it is that single, or a pair with that relationship or target
 one_named : (m : Entity) (i : Id)
@@ -139,13 +111,7 @@ one_named m (id.Two r t) = (λ k. entity_eq_turns r m k || entity_eq_turns t m k
     pair false b = refl
 
 shuffle : (a b c x y z : Bool) → (((a || b) || c) || ((x || y) || z)) ≡ (((a || x) || (b || y)) || (c || z))
-shuffle true b c x y z = refl
-shuffle false true c true y z = refl
-shuffle false true c false y z = refl
-shuffle false false true true y z = refl
-shuffle false false true false true z = refl
-shuffle false false true false false z = refl
-shuffle false false false x y z = refl
+shuffle a b c x y z = grind arith
 
 any_three : (k f g h : Id → Bool) → ((i : Id) → k i ≡ ((f i || g i) || h i)) → (is : List Id)
     → list_any k is ≡ ((list_any f is || list_any g is) || list_any h is)
@@ -165,41 +131,28 @@ found_three m (Some t) = by (nat_lt 0 (length t.rows))
     by false = refl
 
 module _ (w : WorldState) (slots : List (Option TableState)) (m : Entity) where
-  -- the table of this slot, of the same kind
-  one_fall : (n k : ℕ) → same_node (Falling k) (named_node w slots m n) ≡ (nat_eq k n && falls w slots m k)
-  one_fall n k = by (falls w slots m n) (nat_eq k n) refl refl
+  -- a node of a kind comes where the table of its slot is of that kind
+  come : (b : Node) (k : ℕ) (t : ℕ → Bool) → ((n : ℕ) → same_node b (named_node w slots m n) ≡ (nat_eq k n && t n)) → (found : List ℕ)
+      → is_one_of (map (named_node w slots m) found) b ≡ (listed found k && t k)
+  come b k t one [] = refl
+  come b k t one (n ∷ found) =
+      (λ x. (one n ∙ here (nat_eq k n) refl) x || come b k t one found x) ∙ spread (nat_eq k n) (listed found k) (t k)
     where
-      by : (f s : Bool) → falls w slots m n ≡ f → nat_eq k n ≡ s → same_node (Falling k) (cond f (Falling n) (Named n)) ≡ (s && falls w slots m k)
-      by true true is same = same ∙ sym (ap (falls w slots m) ((Decides-eqb k n).0 same) ∙ is)
-      by true false is same = same
-      by false true is same = sym (ap (falls w slots m) ((Decides-eqb k n).0 same) ∙ is)
-      by false false is same = refl
+      here : (s : Bool) → nat_eq k n ≡ s → (s && t n) ≡ (s && t k)
+      here true same = ap t (sym ((Decides-eqb k n).0 same))
+      here false same = refl
 
-  one_stays : (n k : ℕ) → same_node (Named k) (named_node w slots m n) ≡ (nat_eq k n && not (falls w slots m k))
-  one_stays n k = by (falls w slots m n) (nat_eq k n) refl refl
-    where
-      by : (f s : Bool) → falls w slots m n ≡ f → nat_eq k n ≡ s → same_node (Named k) (cond f (Falling n) (Named n)) ≡ (s && not (falls w slots m k))
-      by true true is same = sym (ap not (ap (falls w slots m) ((Decides-eqb k n).0 same) ∙ is))
-      by true false is same = refl
-      by false true is same = same ∙ sym (ap not (ap (falls w slots m) ((Decides-eqb k n).0 same) ∙ is))
-      by false false is same = same
+  one_fall : (k n : ℕ) → same_node (Falling k) (named_node w slots m n) ≡ (nat_eq k n && falls w slots m n)
+  one_fall k n = elim (falls w slots m n) as (λ f. same_node (Falling k) (cond f (Falling n) (Named n)) ≡ (nat_eq k n && f)) [
+    | true ↦ sym (and-true (nat_eq k n))
+    | false ↦ sym (and-false (nat_eq k n))
+  ]
 
-  spread : (a b p : Bool) → ((a && p) || (b && p)) ≡ ((a || b) && p)
-  spread true b true = refl
-  spread true true false = refl
-  spread true false false = refl
-  spread false b p = refl
-
-  falls_come : (found : List ℕ) (k : ℕ) → is_one_of (map (named_node w slots m) found) (Falling k) ≡ (listed found k && falls w slots m k)
-  falls_come [] k = refl
-  falls_come (n ∷ found) k = (λ t. one_fall n k t || falls_come found k t) ∙ spread (nat_eq k n) (listed found k) (falls w slots m k)
-
-  named_come : (found : List ℕ) (k : ℕ) → is_one_of (map (named_node w slots m) found) (Named k) ≡ (listed found k && not (falls w slots m k))
-  named_come [] k = refl
-  named_come (n ∷ found) k = (λ t. one_stays n k t || named_come found k t) ∙ spread (nat_eq k n) (listed found k) (not (falls w slots m k))
-
-  others : (found : List ℕ) (b : Node) → ((n : ℕ) → same_node b (named_node w slots m n) ≡ false) → is_one_of (map (named_node w slots m) found) b ≡ false
-  others found b none = no_others (named_node w slots m) found b none
+  one_stays : (k n : ℕ) → same_node (Named k) (named_node w slots m n) ≡ (nat_eq k n && not (falls w slots m n))
+  one_stays k n = elim (falls w slots m n) as (λ f. same_node (Named k) (cond f (Falling n) (Named n)) ≡ (nat_eq k n && not f)) [
+    | true ↦ sym (and-false (nat_eq k n))
+    | false ↦ sym (and-true (nat_eq k n))
+  ]
 
   one_root : (n : ℕ) (e : Entity) → same_node (Root e) (named_node w slots m n) ≡ false
   one_root n e = elim (falls w slots m n) as (λ f. same_node (Root e) (cond f (Falling n) (Named n)) ≡ false) [ true ↦ refl | false ↦ refl ]
@@ -217,9 +170,9 @@ module _ (w : WorldState) (slots : List (Option TableState)) (m : Entity) where
 
   touched : (p : Pattern) (found : List ℕ) → ((n : ℕ) → listed found n ≡ is_found p (slot_of slots n)) → (b : Node)
       → is_one_of (map (named_node w slots m) found) b ≡ touches_by w slots m p b
-  touched p found all (Root e) = others found (Root e) (λ n. one_root n e)
-  touched p found all (Falling k) = falls_come found k ∙ ap (λ t. t && falls w slots m k) (all k)
-  touched p found all (Named k) = named_come found k ∙ ap (λ t. t && not (falls w slots m k)) (all k)
+  touched p found all (Root e) = no_others (named_node w slots m) found (Root e) (λ n. one_root n e)
+  touched p found all (Falling k) = come (Falling k) k (falls w slots m) (one_fall k) found ∙ ap (λ t. t && falls w slots m k) (all k)
+  touched p found all (Named k) = come (Named k) k (λ n. not (falls w slots m n)) (one_stays k) found ∙ ap (λ t. t && not (falls w slots m k)) (all k)
 
   -- the tables that a pattern finds come
   pub listed_come : (p : Pattern) (found : List ℕ) (old new : List Node) → ((n : ℕ) → listed found n ≡ type_matches (type_at slots n) p)
@@ -230,7 +183,7 @@ module _ (w : WorldState) (slots : List (Option TableState)) (m : Entity) where
       ∙ ap (λ t. is_one_of old b || t) (touched p (filter (has_rows slots) found) with_rows b)
     where
       with_rows : (n : ℕ) → listed (filter (has_rows slots) found) n ≡ is_found p (slot_of slots n)
-      with_rows n = any_filtered (has_rows slots) found n ∙ ap (λ t. t && has_rows slots n) (all n) ∙ found_parts p (slot_of slots n)
+      with_rows n = any_filtered (has_rows slots) found n ∙ ap (λ t. has_rows slots n && t) (all n) ∙ found_parts p (slot_of slots n)
 
   -- those of all three patterns are all that are touched
   both_ways : (n : ℕ) (f : Bool)
@@ -254,18 +207,12 @@ module _ (w : WorldState) (slots : List (Option TableState)) (m : Entity) where
   three_come old one two new single relationship target b =
       target b
       ∙ ap (λ t. t || touches_by w slots m (Two Any (Is m)) b) (relationship b ∙ ap (λ t. t || touches_by w slots m (Two (Is m) Any) b) (single b))
-      ∙ in_turn (is_one_of old b) (touches_by w slots m (One m) b) (touches_by w slots m (Two (Is m) Any) b) (touches_by w slots m (Two Any (Is m)) b)
-      ∙ ap (λ t. is_one_of old b || t) (all_three b)
-    where
-      in_turn : (o x y z : Bool) → (((o || x) || y) || z) ≡ (o || ((x || y) || z))
-      in_turn true x y z = refl
-      in_turn false x y z = refl
+      ∙ or_assoc (is_one_of old b || touches_by w slots m (One m) b) (touches_by w slots m (Two (Is m) Any) b) (touches_by w slots m (Two Any (Is m)) b)
+      ∙ or_assoc (is_one_of old b) (touches_by w slots m (One m) b) (touches_by w slots m (Two (Is m) Any) b || touches_by w slots m (Two Any (Is m)) b)
+      ∙ ap (λ t. is_one_of old b || t)
+      (sym (or_assoc (touches_by w slots m (One m) b) (touches_by w slots m (Two (Is m) Any) b) (touches_by w slots m (Two Any (Is m)) b)) ∙ all_three b)
 
 -- ---- all who stand in a table
-
-regroup : (a b c : Bool) → ((a || b) || c) ≡ (a || (b || c))
-regroup true b c = refl
-regroup false b c = refl
 
 -- one more of a list
 pub one_more : {A : Type 0} (test : A → Bool) (xs : List A) (k : ℕ) (d : A) → k < length xs → (old now : Bool) → now ≡ (old || list_any test (take k xs))
@@ -273,7 +220,7 @@ pub one_more : {A : Type 0} (test : A → Bool) (xs : List A) (k : ℕ) (d : A) 
 one_more test xs k d within old now is =
     let next : k + 1 ≡ suc k = omega arith in
     let parts = list_any-append test (take k xs) (get_or xs k d ∷ []) ∙ ap (λ t. list_any test (take k xs) || t) (or-false (test (get_or xs k d))) in
-    ap (λ t. t || test (get_or xs k d)) is ∙ regroup old (list_any test (take k xs)) (test (get_or xs k d))
+    ap (λ t. t || test (get_or xs k d)) is ∙ or_assoc old (list_any test (take k xs)) (test (get_or xs k d))
     ∙ sym (ap (λ t. old || t) (ap (list_any test) (ap (λ n. take n xs) next ∙ take-suc xs k d within) ∙ parts))
 
 module _ (w : WorldState) (slots : List (Option TableState)) where
@@ -306,16 +253,18 @@ there_if_found test None h = absurd (true≢false (sym h))
 there_if_found test (Some t) h = refl
 
 module _ (w : WorldState) (slots : List (Option TableState)) where
+  -- a node of either kind, where the type of its table names the entity
+  known : (kind : ℕ → Node) → ((n : ℕ) (rest : Bool) → IsTrue (same_node (kind n) (Falling n) || (same_node (kind n) (Named n) || rest)))
+      → (m : Entity) (n : ℕ) → IsTrue (is_naming slots m n) → IsTrue (is_one_of (all_nodes slots) (kind n))
+  known kind own m n h =
+      let same : 0 + n ≡ n = omega arith in
+      subst (λ x. IsTrue (is_one_of (all_nodes slots) (kind x))) same
+      (within kind own 0 slots n (there_if_found (λ is. type_names is m) (slot_of slots n) h))
+
   touched_known : (m : Entity) (b : Node) → IsTrue (touches w slots m b) → IsTrue (is_one_of (all_nodes slots) b)
   touched_known m (Root x) h = absurd (true≢false (sym h))
-  touched_known m (Falling n) h =
-      let same : 0 + n ≡ n = omega arith in
-      subst (λ x. IsTrue (is_one_of (all_nodes slots) (Falling x))) same
-      (within Falling (λ k rest. or_left _ _ (node_itself (Falling k))) 0 slots n (there_if_found (λ is. type_names is m) (slot_of slots n) (first _ _ h)))
-  touched_known m (Named n) h =
-      let same : 0 + n ≡ n = omega arith in
-      subst (λ x. IsTrue (is_one_of (all_nodes slots) (Named x))) same
-      (within Named (λ k rest. or_left _ _ (node_itself (Named k))) 0 slots n (there_if_found (λ is. type_names is m) (slot_of slots n) (first _ _ h)))
+  touched_known m (Falling n) h = known Falling (λ k rest. or_left _ _ (node_itself (Falling k))) m n (first _ _ h)
+  touched_known m (Named n) h = known Named (λ k rest. or_left _ _ (node_itself (Named k))) m n (first _ _ h)
 
   -- whatever anything leads to is one of them
   pub all_known : (a b : Node) → IsTrue (leads w slots a b) → IsTrue (is_one_of (all_nodes slots) b)

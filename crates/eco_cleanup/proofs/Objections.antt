@@ -1,6 +1,6 @@
 -- The objection that is found is the least of all.
-use Rattle.std.proofs.Common.{◌≡◌, Bool, true, false, cond, not, ◌&&◌, ◌||◌, List, [], ◌∷◌, Option, Some, None, refl, sym, ap, IsTrue, Ordering, Less, Equal}
-use Rattle.std.proofs.Common.{Greater}
+use Rattle.std.proofs.Common.{◌≡◌, Bool, true, false, cond, not, ◌&&◌, ◌||◌, List, [], ◌∷◌, Option, Some, None, refl, sym, ap, IsTrue, Ordering, arith}
+use Rattle.std.proofs.lemmas.Bool.{and_right}
 use Rattle.std.proofs.lemmas.Cmp.{on_total, then_total}
 use Rattle.std.specs.Cmp.{IsTotalOrder}
 use Rattle.std.specs.List.{list_any}
@@ -32,9 +32,7 @@ pub objection_cmp_total : IsTotalOrder objection_cmp
 objection_cmp_total = then_total (on_total (λ o. o.holder) entity_cmp_total) (on_total (λ o. o.member) entity_cmp_total)
 
 shared : (p m a b : Bool) → ((p || (m && a)) || (m && b)) ≡ (p || (m && (a || b)))
-shared true m a b = refl
-shared false true a b = refl
-shared false false a b = refl
+shared p m a b = grind arith
 
 -- a test that is asked of each
 spread_left : (m : Bool) {B : Type 0} (t : B → Bool) (bs : List B) → list_any (λ b. m && t b) bs ≡ (m && list_any t bs)
@@ -103,18 +101,12 @@ module _ (w : WorldState) (dead : List Entity) where
   -- ---- objections
 
   le_then : (r s : Ordering) → IsTrue (is_le r) → IsTrue (is_le s) → IsTrue (is_le (ordering_then r s))
-  le_then Less s h k = refl
-  le_then Equal s h k = k
-  le_then Greater s h k = h
-
-  and_false : (a b : Bool) → b ≡ false → (a && b) ≡ false
-  and_false true b h = h
-  and_false false b h = refl
+  le_then r s h k = grind arith
 
   pair_first : (p q : Entity → Bool) (h m : Option Entity) → IsFirst entity_cmp_total p h → IsFirst entity_cmp_total q m
       → IsFirst objection_cmp_total (λ o. p o.holder && q o.member) (objection w dead h m)
   pair_first p q None m f g = λ o. ap (λ t. t && q o.member) (f o.holder)
-  pair_first p q (Some h) None f g = λ o. and_false (p o.holder) (q o.member) (g o.member)
+  pair_first p q (Some h) None f g = λ o. and_right (p o.holder) (q o.member) (g o.member)
   pair_first p q (Some h) (Some m) f g = (
     both (p h) (q m) f.0 g.0,
     λ o k. le_then (entity_cmp h o.holder) (entity_cmp m o.member) (f.1 o.holder (first (p o.holder) (q o.member) k))

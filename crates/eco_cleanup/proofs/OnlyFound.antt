@@ -1,16 +1,18 @@
 -- One row of one table alone names an entity, by one id.
-use Rattle.std.proofs.Common.{◌≡◌, ℕ, Bool, true, false, true≢false, cond, not, length, get_or, List, [], ◌∷◌, filter, slice_get, Option, Some, None, ◌⊎◌}
-use Rattle.std.proofs.Common.{inl, inr}
+use Rattle.std.proofs.Common.{◌≡◌, ℕ, Bool, true, false, true≢false, not, length, get_or, List, [], ◌∷◌, filter, slice_get, Option, Some, None}
+use Rattle.std.proofs.Common.{◌&&◌}
 use Rattle.std.proofs.Common.{IsTrue, IsFalse, refl, sym, ap, ◌∙◌, subst, arith}
 use Rattle.std.proofs.Math.Bool.{or-false}
+use Rattle.std.proofs.lemmas.Bool.{false_from_ne_true}
+use Rattle.std.proofs.lemmas.Map.Views.{any-filter_same}
 use Rattle.eco_ids.specs.declared.entity.Entity.{Entity}
 use Rattle.eco_ids.specs.declared.entity.TheConstants.{DELETE, PANIC}
 use Rattle.eco_ids.specs.declared.id.Id.{Id}
 use Rattle.eco_ids.specs.Indices.{Indexed, record_of}
 use Rattle.eco_ids.specs.Order.{entity_cmp, entity_eq, has_item, id_cmp, id_eq, is_ascending, names_entity}
 use Rattle.eco_ids.specs.World.{Record, has}
-use Rattle.eco_ids.proofs.Ascending.{both}
-use Rattle.eco_ids.proofs.Facts.{id_eq_is, id_eq_itself, or_left, or_parts, or_right}
+use Rattle.eco_ids.proofs.Ascending.{both, first, second}
+use Rattle.eco_ids.proofs.Facts.{id_eq_is, id_eq_itself, or_left}
 use Rattle.eco_tables.specs.Table.{TableRow, TableState, entities_of}
 use Rattle.eco_tables.specs.Tables.{slot_of, table_in}
 use Rattle.eco_index.specs.TypeTests.{type_names as any_names}
@@ -22,7 +24,6 @@ use Rattle.eco_cleanup.specs.OnlyHolders.{IsOnlyHolder}
 use Rattle.eco_cleanup.specs.Policies.{names_on}
 use Rattle.eco_cleanup.specs.declared.node.Node.{Node}
 use Rattle.eco_cleanup.specs.declared.node.Node.TheVariants.{Root, Falling, Named}
-use Rattle.eco_cleanup.specs.contracts.node.NodePartialEq.TheImpl as node_impl
 use Rattle.eco_cleanup.proofs.Deaths.{one_is, one_itself}
 use Rattle.eco_cleanup.proofs.Planned.{ids_standing}
 use Rattle.eco_cleanup.proofs.Standing.{any_id, found_at, has_at, row_of, stands_among, stands_with}
@@ -34,35 +35,8 @@ listed (Some i) = i ∷ []
 
 -- ---- the ids of a list that pass a test
 
-module _ (test : Id → Bool) where
-  passed_in : (ids : List Id) (j : Id) → IsTrue (has_item id_cmp (filter test ids) j) → IsTrue (has_item id_cmp ids j) × IsTrue (test j)
-  passed_in [] j h = absurd (true≢false (sym h))
-  passed_in (x ∷ ids) j h = by (test x) refl h (passed_in ids j)
-    where
-      later : IsTrue (has_item id_cmp ids j) × IsTrue (test j) → IsTrue (has_item id_cmp (x ∷ ids) j) × IsTrue (test j)
-      later rest = (or_right (id_eq x j) (has_item id_cmp ids j) rest.0, rest.1)
-
-      by : (b : Bool) → test x ≡ b → IsTrue (has_item id_cmp (cond b (x ∷ filter test ids) (filter test ids)) j)
-          → (IsTrue (has_item id_cmp (filter test ids) j) → IsTrue (has_item id_cmp ids j) × IsTrue (test j))
-          → IsTrue (has_item id_cmp (x ∷ ids) j) × IsTrue (test j)
-      by true is there rest = elim (or_parts (id_eq x j) (has_item id_cmp (filter test ids) j) there) as
-          (λ _. IsTrue (has_item id_cmp (x ∷ ids) j) × IsTrue (test j)) [
-            | inl same ↦ (or_left (id_eq x j) (has_item id_cmp ids j) same, subst (λ y. IsTrue (test y)) (id_eq_is x j same) is)
-            | inr among ↦ later (rest among)
-          ]
-      by false is there rest = later (rest there)
-
-  in_passed : (ids : List Id) (j : Id) → IsTrue (has_item id_cmp ids j) → IsTrue (test j) → IsTrue (has_item id_cmp (filter test ids) j)
-  in_passed [] j h passes = h
-  in_passed (x ∷ ids) j h passes = by (test x) refl (or_parts (id_eq x j) (has_item id_cmp ids j) h) (λ there. in_passed ids j there passes)
-    where
-      by : (b : Bool) → test x ≡ b → IsTrue (id_eq x j) ⊎ IsTrue (has_item id_cmp ids j)
-          → (IsTrue (has_item id_cmp ids j) → IsTrue (has_item id_cmp (filter test ids) j))
-          → IsTrue (has_item id_cmp (cond b (x ∷ filter test ids) (filter test ids)) j)
-      by true is (inl same) rest = or_left (id_eq x j) (has_item id_cmp (filter test ids) j) same
-      by true is (inr later) rest = or_right (id_eq x j) (has_item id_cmp (filter test ids) j) (rest later)
-      by false is (inl same) rest = absurd (true≢false (sym (subst (λ y. IsTrue (test y)) (sym (id_eq_is x j same)) passes) ∙ is))
-      by false is (inr later) rest = rest later
+passed : (test : Id → Bool) (ids : List Id) (j : Id) → has_item id_cmp (filter test ids) j ≡ (test j && has_item id_cmp ids j)
+passed test ids j = any-filter_same (λ i. id_eq i j) test (test j) (λ i same. ap test (id_eq_is i j same)) ids
 
 -- ---- nodes
 
@@ -90,20 +64,17 @@ module _ (v : Indexed Record) (slots : List (Option TableState)) (shown : IsShow
 
   own_id : IsTrue (has_item id_cmp (table_in slots n).ids i) × IsTrue (names_entity i m)
   own_id =
-      passed_in (λ j. names_entity j m) (table_in slots n).ids i
-      (subst (λ ids. IsTrue (has_item id_cmp ids i)) (sym named) (or_left (id_eq i i) false (id_eq_itself i)))
+      let both_are = sym (passed (λ j. names_entity j m) (table_in slots n).ids i)
+      ∙ subst (λ ids. IsTrue (has_item id_cmp ids i)) (sym named) (or_left (id_eq i i) false (id_eq_itself i)) in
+      (second (names_entity i m) _ both_are, first (names_entity i m) _ both_are)
 
   had : IsTrue (has (world_of v) h i)
   had = subst (λ x. IsTrue (has (world_of v) x i)) own_row.3 (has_at v slots shown n own_row.0 own_row.1 i own_row.2 ∙ own_id.0)
 
   -- no table falls, and no other is named
   no_fall : (k : ℕ) → IsTrue (is_naming slots m k) → IsFalse (falls (world_of v) slots m k)
-  no_fall k there = by (falls (world_of v) slots m k) refl
-    where
-      by : (b : Bool) → falls (world_of v) slots m k ≡ b → IsFalse (falls (world_of v) slots m k)
-      by true is =
-          absurd (true≢false (ap falls_in (alone (Falling k) (both (is_naming slots m k) (falls (world_of v) slots m k) there is))))
-      by false is = is
+  no_fall k there = false_from_ne_true (falls (world_of v) slots m k) (λ is.
+      true≢false (ap falls_in (alone (Falling k) (both (is_naming slots m k) (falls (world_of v) slots m k) there is))))
 
   same_slot : (k : ℕ) → IsTrue (is_naming slots m k) → k ≡ n
   same_slot k there =
@@ -119,10 +90,10 @@ module _ (v : Indexed Record) (slots : List (Option TableState)) (shown : IsShow
       → IsTrue (names_entity j m) → (r.entity ≡ h) × (j ≡ i)
   at_slot k row r j same at there names =
       let stands = stands_among (table_in slots n).rows row r (subst (λ x. row_at slots x row ≡ Some r) same at) in
-      let passed = in_passed (λ x. names_entity x m) (table_in slots n).ids j
-      (subst (λ x. IsTrue (has_item id_cmp (table_in slots x).ids j)) same there) names in (
+      let passes = passed (λ x. names_entity x m) (table_in slots n).ids j
+      ∙ both (names_entity j m) _ names (subst (λ x. IsTrue (has_item id_cmp (table_in slots x).ids j)) same there) in (
         sym (one_is h r.entity (subst (λ es. IsTrue (has_item entity_cmp es r.entity)) rows stands)),
-        sym (id_eq_is i j (sym (or-false (id_eq i j)) ∙ subst (λ ids. IsTrue (has_item id_cmp ids j)) named passed)),
+        sym (id_eq_is i j (sym (or-false (id_eq i j)) ∙ subst (λ ids. IsTrue (has_item id_cmp ids j)) named passes)),
       )
 
   alone_has : (x : Entity) (j : Id) → IsTrue (has (world_of v) x j) → IsTrue (names_entity j m) → (x ≡ h) × (j ≡ i)
@@ -133,13 +104,9 @@ module _ (v : Indexed Record) (slots : List (Option TableState)) (shown : IsShow
       (sym at.4 ∙ is.0, is.1)
 
   not_deleted : IsFalse (names_on (world_of v) DELETE m i)
-  not_deleted = by (names_on (world_of v) DELETE m i) refl
-    where
-      by : (b : Bool) → names_on (world_of v) DELETE m i ≡ b → IsFalse (names_on (world_of v) DELETE m i)
-      by true is =
-          absurd (true≢false (sym (any_id (names_on (world_of v) DELETE m) (table_in slots n).ids i own_id.0 is)
-          ∙ no_fall n (names_there n own_row.0 own_row.1 i own_row.2 own_id.0 own_id.1)))
-      by false is = is
+  not_deleted = false_from_ne_true (names_on (world_of v) DELETE m i) (λ is.
+      true≢false (sym (any_id (names_on (world_of v) DELETE m) (table_in slots n).ids i own_id.0 is)
+      ∙ no_fall n (names_there n own_row.0 own_row.1 i own_row.2 own_id.0 own_id.1)))
 
   pub found_only : IsTrue (is_ascending id_cmp (table_in slots n).ids) → IsFalse (entity_eq h m) → IsFalse (names_on (world_of v) PANIC m i)
       → IsOnlyHolder v (record { member = m; holder = h; id = i })

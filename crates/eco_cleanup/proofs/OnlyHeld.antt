@@ -1,8 +1,9 @@
 -- Who is named by one id of one other entity dies alone, and that id goes.
 use Rattle.std.proofs.Common.{◌≡◌, ℕ, ◌+◌, Bool, true, false, true≢false, cond, not, ◌⊎◌, List, [], ◌∷◌, filter, slice_get, slice_set, Option}
-use Rattle.std.proofs.Common.{Some, None, option_map, is_some, unwrap_or, IsTrue, IsFalse, refl, sym, ap, ◌∙◌, subst, inl, inr, arith}
-use Rattle.std.specs.FinMap.Entries.{find, is_sorted}
+use Rattle.std.proofs.Common.{Some, None, option_map, is_some, unwrap_or, IsTrue, refl, sym, ap, ◌∙◌, subst, inl, inr, arith}
+use Rattle.std.specs.FinMap.Entries.{is_sorted}
 use Rattle.std.proofs.Math.Bool.{or-false}
+use Rattle.std.proofs.lemmas.Bool.{false_from_ne_true}
 use Rattle.std.proofs.lemmas.Option.{same_Some}
 use Rattle.eco_ids.specs.declared.entity.Entity.{Entity}
 use Rattle.eco_ids.specs.declared.entity.TheConstants.{DELETE, PANIC}
@@ -129,16 +130,11 @@ module _ (v : Indexed Record) (o : OnlyHolder) (only : IsOnlyHolder v o) where
   left = left_at (has_item entity_cmp one) (λ e i. names_any one i)
 
   kept : (k g : ℕ) (d : Record) → slice_get v.indices k ≡ Some (Living g d) → (k ≡ o.holder.index → ⊥) → keeping (names_any one) d ≡ d
-  kept k g d at other = keeps_all (names_any one) d (λ i there. stays i there (names_any one i) refl)
+  kept k g d at other = keeps_all (names_any one) d (λ i there. false_from_ne_true (names_any one i) (λ names.
+      other (ap (λ (x : Entity). x.index) (only.only who i (ap (λ x. has_in x i) (record_at v who d at) ∙ there) (sym (names_one i) ∙ names)).0)))
     where
       who : Entity
       who = record { index = k; generation = g }
-
-      stays : (i : Id) → IsTrue (is_some (find id_cmp i d.held)) → (b : Bool) → names_any one i ≡ b → IsFalse b
-      stays i there true names =
-          let that = only.only who i (ap (λ x. has_in x i) (record_at v who d at) ∙ there) (sym (names_one i) ∙ names) in
-          absurd (other (ap (λ (x : Entity). x.index) that.0))
-      stays i there false names = refl
 
   others_left : (k : ℕ) (x : Option (IndexState Record)) → (k ≡ o.member.index → ⊥) → (k ≡ o.holder.index → ⊥) → slice_get v.indices k ≡ x
       → option_map (left k) x ≡ x

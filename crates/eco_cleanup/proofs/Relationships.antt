@@ -1,11 +1,11 @@
 -- Whether an id names a member under the policy Delete, asked of the relationships of which holders die with targets.
-use Rattle.std.proofs.Common.{◌≡◌, ℕ, Bool, true, false, true≢false, cond, nat_eq, ◌&&◌, ◌||◌, inl, inr, List, slice_get, Option, Some, None, option_map}
+use Rattle.std.proofs.Common.{arith, ◌≡◌, ℕ, Bool, true≢false, nat_eq, ◌&&◌, ◌||◌, inl, inr, List, slice_get, Option, Some, None, option_map}
 use Rattle.std.proofs.Common.{unwrap_or, IsTrue, refl, sym, ◌∙◌, subst}
 use Rattle.std.specs.List.{list_any}
 use Rattle.std.proofs.lemmas.Bool.Decides.{Decides-eqb}
 use Rattle.std.proofs.lemmas.Option.{none-some}
 use Rattle.eco_ids.specs.declared.entity.Entity.{Entity}
-use Rattle.eco_ids.specs.declared.entity.TheConstants.{DELETE, ON_DELETE, ON_DELETE_TARGET, PANIC, REMOVE}
+use Rattle.eco_ids.specs.declared.entity.TheConstants.{DELETE, ON_DELETE, ON_DELETE_TARGET}
 use Rattle.eco_ids.specs.declared.id.Id.{Id}
 use Rattle.eco_ids.specs.declared.id.Id.TheVariants.{One, Two}
 use Rattle.eco_ids.specs.declared.pattern.Part.TheVariants.{Is}
@@ -38,12 +38,7 @@ deleting = pattern.Two (Is ON_DELETE_TARGET) (Is DELETE)
 
 -- a policy is Delete where the entity has that pair
 policy_delete : (w : WorldState) (r c : Entity) → entity_eq (policy w r c) DELETE ≡ has w r (Two c DELETE)
-policy_delete w r c = by (has w r (Two c DELETE)) (has w r (Two c PANIC))
-  where
-    by : (a b : Bool) → entity_eq (cond a DELETE (cond b PANIC REMOVE)) DELETE ≡ a
-    by true b = refl
-    by false true = refl
-    by false false = refl
+policy_delete w r c = grind arith
 
 only_that : (i : Id) → IsTrue (pattern_matches deleting i) → i ≡ that
 only_that (One x) h = absurd (true≢false (sym h))

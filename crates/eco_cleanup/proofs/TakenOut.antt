@@ -1,15 +1,17 @@
 -- Entities die, and ids go from the types of the others.
-use Rattle.std.proofs.Common.{◌≡◌, ◌≢◌, ℕ, zero, suc, ◌+◌, ◌<◌, Bool, true, false, true≢false, cond, not, ◌||◌, T, List, [], ◌∷◌, map, filter, fold}
-use Rattle.std.proofs.Common.{length, get_or, slice_get, Some, unwrap_or, nat_lt, IsTrue, IsFalse, refl, sym, ap, ◌∙◌, arith}
+use Rattle.std.proofs.Common.{◌≡◌, ◌≢◌, ℕ, suc, ◌+◌, Bool, true, false, true≢false, cond, not, ◌||◌, T, List, [], ◌∷◌, map, filter, fold}
+use Rattle.std.proofs.Common.{get_or, slice_get, Some, unwrap_or, nat_lt, IsTrue, refl, sym, ap, ◌∙◌, arith}
 use Rattle.std.specs.List.{All, Contains, list_any}
 use Rattle.std.specs.FinMap.Entries.{find, where_key, is_sorted}
+use Rattle.std.proofs.lemmas.Bool.{false_from_ne_true}
+use Rattle.std.proofs.lemmas.Map.Made.{Contains-tail}
 use Rattle.std.proofs.lemmas.List.Elements.{All-contains, All-head, All-map, All-tail}
 use Rattle.eco_ids.specs.declared.entity.Entity.{Entity}
 use Rattle.eco_ids.specs.declared.id.Id.{Id}
 use Rattle.eco_ids.specs.declared.value.Value.{Value}
 use Rattle.eco_ids.specs.Indices.{Indexed, IndexState, Retired, Free, Living, map_from, map_state, raised, record_of}
 use Rattle.eco_ids.specs.Losses.{keeping, left_at}
-use Rattle.eco_ids.specs.Order.{has_item, id_cmp, is_ascending}
+use Rattle.eco_ids.specs.Order.{id_cmp, is_ascending}
 use Rattle.eco_ids.specs.World.{Record, zeros}
 use Rattle.eco_ids.proofs.Ascending.{first_T, second_T}
 use Rattle.eco_ids.proofs.Entries.{apart, sorted_is}
@@ -57,18 +59,9 @@ abbrev all_changed : List TypeChange → Record → Record
 all_changed cs r = fold (λ x c. changed_record c x) r cs
 
 other_type : (c : TypeChange) (r : Record) → record_ids r ≢ c.from → changed_record c r ≡ r
-other_type c r other = by (same_ids (record_ids r) c.from) refl
-  where
-    by : (b : Bool) → same_ids (record_ids r) c.from ≡ b → cond b (with_type c.to r) r ≡ r
-    by true same = absurd (other ((same_ids-Decides (record_ids r) c.from).0 same))
-    by false same = refl
-
-contains_rest : {X : Type 0} (x y : X) (xs : List X) → y ≢ x → Contains (y ∷ xs) x → Contains xs x
-contains_rest x y xs other c = by c.0 c.1 c.2
-  where
-    by : (k : ℕ) → k < length (y ∷ xs) → get_or (y ∷ xs) k x ≡ x → Contains xs x
-    by zero within at = absurd (other at)
-    by (suc k) within at = (k, omega arith, at)
+other_type c r other =
+    ap (λ b. cond b (with_type c.to r) r)
+    (false_from_ne_true (same_ids (record_ids r) c.from) (λ same. other ((same_ids-Decides (record_ids r) c.from).0 same)))
 
 module _ (goes : Id → Bool) where
   abbrev stays : Id → Bool
@@ -104,7 +97,7 @@ module _ (goes : Id → Bool) where
   having [] r each among = absurd (omega (arith, among.1))
   having (c ∷ cs) r each among =
       by (same_ids (record_ids r) c.from) refl
-      (λ other. having cs r (All-tail (TakesOut goes) c cs each) (contains_rest (record_ids r) c.from (map (λ (x : TypeChange). x.from) cs) other among))
+      (λ other. having cs r (All-tail (TakesOut goes) c cs each) (Contains-tail c.from (map (λ (x : TypeChange). x.from) cs) (record_ids r) other among))
     where
       by : (b : Bool) → same_ids (record_ids r) c.from ≡ b → (c.from ≢ record_ids r → all_changed cs r ≡ with_type (filter stays (record_ids r)) r)
           → all_changed (c ∷ cs) r ≡ with_type (filter stays (record_ids r)) r
@@ -120,11 +113,8 @@ module _ (goes : Id → Bool) where
 
   -- where no id goes all stay
   none_goes : (r : Record) → list_any goes (record_ids r) ≡ false → r ≡ keeping goes r
-  none_goes r none = sym (keeps_all goes r (λ i there. by i (sym (keys_find r.held i) ∙ there) (goes i) refl))
-    where
-      by : (i : Id) → IsTrue (has_item id_cmp (keys r.held) i) → (b : Bool) → goes i ≡ b → IsFalse b
-      by i there true is = absurd (true≢false (sym (any_id goes (record_ids r) i there is) ∙ none))
-      by i there false is = refl
+  none_goes r none = sym (keeps_all goes r (λ i there. false_from_ne_true (goes i) (λ is.
+      true≢false (sym (any_id goes (record_ids r) i (sym (keys_find r.held i) ∙ there) is) ∙ none))))
 
 -- ---- all of them
 

@@ -1,7 +1,7 @@
 -- One bit of a list of words: set, cleared, and what the word around it then is.
 use Rattle.std.proofs.lemmas.Grind.{common_steps}
 use Rattle.std.proofs.Common.{◌≡◌, ◌≢◌, ℕ, ◌+◌, ◌-◌, ◌*◌, ◌/◌, ◌%◌, ◌^◌, ◌<◌, ◌≤◌, zero, suc, ◌==◌, Bool, true, false, nat_lt, Option, Some, None, MatchOption}
-use Rattle.std.proofs.Common.{cond, List, [], ◌∷◌, length, get_or, refl, sym, ap, ◌∙◌, inl, inr, min, max, arith, lit<, eq-eqb, eqb-true, replicate, ◌++◌}
+use Rattle.std.proofs.Common.{cond, List, [], ◌∷◌, length, set, get_or, refl, sym, ap, ◌∙◌, inl, inr, min, max, arith, lit<, eq-eqb, eqb-true, replicate, ◌++◌}
 use Rattle.std.proofs.lemmas.Bool.{cases_eq, cases_lt, lt-ltb, ltb-true, ltb-false}
 use Rattle.std.proofs.lemmas.List.{get_or-set_same, get_or-set_other, get_or_past, length-set}
 use Rattle.std.proofs.lemmas.Nat.Bits.{bit_at-zero, bit_at-lt, bit_at_set_same, bit_at_set_other, bit_at_clear_same, bit_at_clear_other, bit_at_or}
@@ -44,6 +44,17 @@ pub word_of_bit : (ws : List ℕ) (k : ℕ) → has_bit ws k ≡ true → 0 < ge
 unfolding has_bit
 word_of_bit ws k e = pos_of_bit _ (k % 64) (eqb-true _ _ e)
 
+-- another bit, where one word changes and keeps that one
+other_bit : (ws : List ℕ) (k j x : ℕ) → j ≢ k → k / 64 < length ws → (j % 64 ≢ k % 64 → bit_at x (j % 64) ≡ bit_at (get_or ws (k / 64) 0) (j % 64)) →
+    has_bit (set ws (k / 64) x) j ≡ has_bit ws j
+other_bit ws k j x ne l kept =
+    elim (cases_eq (j / 64) (k / 64)) [
+      | inl e ↦
+          let apart : j % 64 ≢ k % 64 = omega arith in
+          has_bit_same _ ws j (rw (e, get_or-set_same) (kept apart))
+      | inr apart ↦ has_bit_word _ ws j (rw get_or-set_other)
+    ]
+
 -- with_bit
 
 pub length-with_bit : (ws : List ℕ) (k : ℕ) → length (with_bit ws k) ≡ length ws
@@ -60,12 +71,7 @@ pub has_bit-with_bit_other : (ws : List ℕ) (k j : ℕ) → j ≢ k → k / 64 
 unfolding with_bit
 has_bit-with_bit_other ws k j ne l =
     let below : k % 64 < 64 = omega arith in
-    elim (cases_eq (j / 64) (k / 64)) [
-      | inl e ↦
-          let apart : j % 64 ≢ k % 64 = omega arith in
-          has_bit_same _ ws j (rw (e, get_or-set_same) (bit_at_set_other w64 _ (k % 64) below (j % 64) apart))
-      | inr apart ↦ has_bit_word _ ws j (rw get_or-set_other)
-    ]
+    other_bit ws k j _ ne l (bit_at_set_other w64 _ (k % 64) below (j % 64))
 
 pub word-with_bit_other : (ws : List ℕ) (k w : ℕ) → w ≢ k / 64 → get_or (with_bit ws k) w 0 ≡ get_or ws w 0
 unfolding with_bit
@@ -88,12 +94,7 @@ unfolding without_bit
 has_bit-without_bit_other ws k j ne l =
     let below : k % 64 < 64 = omega arith in
     let here : j % 64 < 64 = omega arith in
-    elim (cases_eq (j / 64) (k / 64)) [
-      | inl e ↦
-          let apart : j % 64 ≢ k % 64 = omega arith in
-          has_bit_same _ ws j (rw (e, get_or-set_same) (bit_at_clear_other w64 _ (k % 64) below (j % 64) here apart))
-      | inr apart ↦ has_bit_word _ ws j (rw get_or-set_other)
-    ]
+    other_bit ws k j _ ne l (bit_at_clear_other w64 _ (k % 64) below (j % 64) here)
 
 pub word-without_bit_other : (ws : List ℕ) (k w : ℕ) → w ≢ k / 64 → get_or (without_bit ws k) w 0 ≡ get_or ws w 0
 unfolding without_bit
@@ -101,25 +102,30 @@ word-without_bit_other ws k w ne = rw get_or-set_other
 
 -- the summary
 
+-- one word changes below, and its bit above as it does
+summarizes_at : (lower lower' upper upper' : List ℕ) (k : ℕ) → Summarizes lower upper → has_bit upper' k ≡ nat_lt 0 (get_or lower' k 0)
+    → ((w : ℕ) → w ≢ k → has_bit upper' w ≡ has_bit upper w) → ((w : ℕ) → w ≢ k → get_or lower' w 0 ≡ get_or lower w 0) → Summarizes lower' upper'
+summarizes_at lower lower' upper upper' k s here bits words = record {
+  exact = λ w. elim (cases_eq w k) [
+    | inl e ↦ rw e here
+    | inr apart ↦ bits w apart ∙ s.exact w ∙ ap (nat_lt 0) (sym (words w apart))
+  ];
+}
+
 -- a bit set below is set above
 pub summarizes-with_bit : (lower upper : List ℕ) (k : ℕ) → Summarizes lower upper → k / 64 < length lower → k / 64 / 64 < length upper →
     Summarizes (with_bit lower k) (with_bit upper (k / 64))
-summarizes-with_bit lower upper k s l u = record {
-  exact = λ w. elim (cases_eq w (k / 64)) [
-    | inl e ↦ rw e (has_bit-with_bit_same upper (k / 64) u ∙ sym (lt-ltb _ _ (word_of_bit (with_bit lower k) k (has_bit-with_bit_same lower k l))))
-    | inr apart ↦ has_bit-with_bit_other upper (k / 64) w apart u ∙ s.exact w ∙ ap (nat_lt 0) (sym (word-with_bit_other lower k w apart))
-  ];
-}
+summarizes-with_bit lower upper k s l u =
+    summarizes_at lower _ upper _ (k / 64) s
+    (has_bit-with_bit_same upper (k / 64) u ∙ sym (lt-ltb _ _ (word_of_bit (with_bit lower k) k (has_bit-with_bit_same lower k l))))
+    (λ w apart. has_bit-with_bit_other upper (k / 64) w apart u) (word-with_bit_other lower k)
 
 -- the last bit of a word is cleared above too
 pub summarizes_emptied : (lower upper : List ℕ) (k : ℕ) → Summarizes lower upper → get_or (without_bit lower k) (k / 64) 0 ≡ 0 → k / 64 / 64 < length upper →
     Summarizes (without_bit lower k) (without_bit upper (k / 64))
-summarizes_emptied lower upper k s z u = record {
-  exact = λ w. elim (cases_eq w (k / 64)) [
-    | inl e ↦ rw e (has_bit-without_bit_same upper (k / 64) u ∙ ap (nat_lt 0) (sym z))
-    | inr apart ↦ has_bit-without_bit_other upper (k / 64) w apart u ∙ s.exact w ∙ ap (nat_lt 0) (sym (word-without_bit_other lower k w apart))
-  ];
-}
+summarizes_emptied lower upper k s z u =
+    summarizes_at lower _ upper _ (k / 64) s (has_bit-without_bit_same upper (k / 64) u ∙ ap (nat_lt 0) (sym z))
+    (λ w apart. has_bit-without_bit_other upper (k / 64) w apart u) (word-without_bit_other lower k)
 
 -- clearing a bit adds none
 pub word-without_bit_le : (ws : List ℕ) (k : ℕ) → k / 64 < length ws → get_or (without_bit ws k) (k / 64) 0 ≤ get_or ws (k / 64) 0
@@ -129,15 +135,10 @@ word-without_bit_le ws k l = rw get_or-set_same (and_le_l _ _)
 -- a word that keeps a bit stays marked
 pub summarizes_kept : (lower upper : List ℕ) (k : ℕ) → Summarizes lower upper → (get_or (without_bit lower k) (k / 64) 0 ≡ 0 → ⊥) → k / 64 < length lower →
     Summarizes (without_bit lower k) upper
-summarizes_kept lower upper k s ne l = record {
-  exact = λ w. elim (cases_eq w (k / 64)) [
-    | inl e ↦
-        let new : 0 < get_or (without_bit lower k) (k / 64) 0 = omega (arith, ne) in
-        let old : 0 < get_or lower (k / 64) 0 = omega (arith, word-without_bit_le lower k l) in
-        rw e (s.exact (k / 64) ∙ lt-ltb _ _ old ∙ sym (lt-ltb _ _ new))
-    | inr apart ↦ s.exact w ∙ ap (nat_lt 0) (sym (word-without_bit_other lower k w apart))
-  ];
-}
+summarizes_kept lower upper k s ne l =
+    let new : 0 < get_or (without_bit lower k) (k / 64) 0 = omega (arith, ne) in
+    let old : 0 < get_or lower (k / 64) 0 = omega (arith, word-without_bit_le lower k l) in
+    summarizes_at lower _ upper _ (k / 64) s (s.exact (k / 64) ∙ lt-ltb _ _ old ∙ sym (lt-ltb _ _ new)) (λ w apart. refl) (word-without_bit_other lower k)
 
 -- the lowest bit of the first word that has any
 
@@ -262,8 +263,7 @@ none_of_none lower upper k s none =
 
 -- the place of a word with a bit lies within the words
 pub within_of_word : (ws : List ℕ) (w : ℕ) → 0 < get_or ws w 0 → w < length ws
-within_of_word ws w pos =
-    elim (cases_lt w (length ws)) [ inl l ↦ l | inr past ↦ absurd (let z : get_or ws w 0 ≡ 0 = get_or_past ws w 0 past in omega arith) ]
+within_of_word ws w pos = grind (arith, common_steps, cases_lt, get_or_past)
 
 -- the first word that has a bit, where the words are counted from n
 abbrev FirstFrom : ℕ → List ℕ → Option ℕ → Type 0
@@ -281,10 +281,7 @@ first_later n x ws (Some p) z rest =
 
 first_here : (n x : ℕ) (ws : List ℕ) (b : Bool) → nat_lt 0 x ≡ b → FirstFrom (n + 1) ws (position_from (λ w. nat_lt 0 w) (n + 1) ws) →
     FirstFrom n (x ∷ ws) (cond b (Some n) (position_from (λ w. nat_lt 0 w) (n + 1) ws))
-first_here n x ws true e rest =
-    let z : n - n ≡ 0 = omega arith in
-    (omega arith, rw z (ltb-true 0 x e), λ k l. absurd (omega (arith, l)))
-first_here n x ws false e rest = first_later n x ws _ (omega (arith, ltb-false 0 x e)) rest
+first_here n x ws b e rest = grind (arith, common_steps, ltb-true, ltb-false, first_later)
 
 pub first_from : (n : ℕ) (ws : List ℕ) → FirstFrom n ws (position_from (λ w. nat_lt 0 w) n ws)
 first_from n [] = λ k. refl

@@ -1,11 +1,11 @@
 -- What is kept of each entity after a change of one state.
 use Rattle.std.proofs.lemmas.Grind.{common_steps}
-use Rattle.std.proofs.Common.{◌≡◌, ◌≢◌, ℕ, zero, suc, ◌+◌, ◌<◌, ◌≤◌, Bool, true, false, cond, List, [], ◌∷◌, ◌++◌, length, set, slice_get, slice_set, replicate}
+use Rattle.std.proofs.Common.{◌≡◌, ◌≢◌, ℕ, zero, suc, ◌<◌, ◌≤◌, true, cond, List, [], ◌∷◌, ◌++◌, length, set, slice_get, slice_set, replicate}
 use Rattle.std.proofs.Common.{refl, sym, ap, ◌∙◌, Some, None, inl, inr, arith, eq-eqb, nat_lt, if◌then◌else◌}
 use Rattle.std.proofs.lemmas.Bool.{cases_eq, ne_eqb, lt-ltb, le-ltb, cond-true, cond-false}
 use Rattle.std.proofs.lemmas.Option.{slice_get_within}
 use Rattle.eco_ids.specs.declared.entity.Entity.{Entity}
-use Rattle.eco_ids.specs.Indices.{Indexed, IndexState, Retired, Free, Living, record_in, record_of, is_alive, is_free_in, is_free_at, with_record, with_death}
+use Rattle.eco_ids.specs.Indices.{Indexed, IndexState, Free, Living, record_in, record_of, is_alive, is_free_in, is_free_at, with_record, with_death}
 use Rattle.eco_ids.specs.Indices.{with_new, admitted, raised, next_entity}
 use Rattle.eco_entities.specs.Changes.{ChangesAt, KeepsAnswers}
 use Rattle.eco_ids.proofs.Lists.{slice_get-set_same, slice_get-set_other}
@@ -15,12 +15,8 @@ use Rattle.eco_entities.proofs.States.{free_known, alive_known, next_is}
 living_else : {A : Type 0} (f g : ℕ) (r : A) → g ≢ f → record_in (Some (Living f r)) g ≡ None
 living_else f g r ne = ap (λ b. cond b (Some r) None) (ne_eqb g f ne)
 
-raised_cases : (A : Type 0) (f g : ℕ) (b : Bool) → record_in {A = A} (Some (if b then Free (f + 1) else Retired)) g ≡ None
-raised_cases A f g true = refl
-raised_cases A f g false = refl
-
 raised_none : (A : Type 0) (f g : ℕ) → record_in {A = A} (Some (raised f)) g ≡ None
-raised_none A f g = raised_cases A f g (nat_lt f 65535)
+raised_none A f g = grind (arith, common_steps)
 
 -- at the index only what is kept of this handle changes
 pub record-set : {A : Type 0} (w : Indexed A) (e : Entity) (x y : IndexState A) → slice_get w.indices e.index ≡ Some y →

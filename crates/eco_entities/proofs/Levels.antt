@@ -31,25 +31,25 @@ flags_are n ws xs e same =
     same_lists _ _ (length-bits_below n ws ∙ sym e)
     (λ k d l. let below : k < n = rw length-bits_below at l in get_or-bits_below n ws k d below ∙ same k d below)
 
-pub flags-with_bit : (n : ℕ) (ws : List ℕ) (i : ℕ) → i < n → i / 64 < length ws → bits_below n (with_bit ws i) ≡ slice_set (bits_below n ws) i true
-flags-with_bit n ws i l room =
-    flags_are n _ _ (length-set _ i true ∙ length-bits_below n ws)
-    (λ k d b. elim (cases_eq k i) [
+-- one flag changes as its bit does
+flags_set : (n : ℕ) (ws new : List ℕ) (i : ℕ) (b : Bool) → i < n → has_bit new i ≡ b → ((k : ℕ) → k ≢ i → has_bit new k ≡ has_bit ws k) →
+    bits_below n new ≡ slice_set (bits_below n ws) i b
+flags_set n ws new i b l here others =
+    flags_are n _ _ (length-set _ i b ∙ length-bits_below n ws)
+    (λ k d within. elim (cases_eq k i) [
       | inl e ↦
           let there : i < length (bits_below n ws) = rw length-bits_below l in
-          rw (e, get_or-set_same) (has_bit-with_bit_same ws i room)
-      | inr ne ↦ has_bit-with_bit_other ws i k ne room ∙ rw (get_or-set_other) (sym (get_or-bits_below n ws k d b))
+          rw (e, get_or-set_same) here
+      | inr ne ↦ others k ne ∙ rw (get_or-set_other) (sym (get_or-bits_below n ws k d within))
     ])
+
+pub flags-with_bit : (n : ℕ) (ws : List ℕ) (i : ℕ) → i < n → i / 64 < length ws → bits_below n (with_bit ws i) ≡ slice_set (bits_below n ws) i true
+flags-with_bit n ws i l room =
+    flags_set n ws (with_bit ws i) i true l (has_bit-with_bit_same ws i room) (λ k ne. has_bit-with_bit_other ws i k ne room)
 
 pub flags-without_bit : (n : ℕ) (ws : List ℕ) (i : ℕ) → i < n → i / 64 < length ws → bits_below n (without_bit ws i) ≡ slice_set (bits_below n ws) i false
 flags-without_bit n ws i l room =
-    flags_are n _ _ (length-set _ i false ∙ length-bits_below n ws)
-    (λ k d b. elim (cases_eq k i) [
-      | inl e ↦
-          let there : i < length (bits_below n ws) = rw length-bits_below l in
-          rw (e, get_or-set_same) (has_bit-without_bit_same ws i room)
-      | inr ne ↦ has_bit-without_bit_other ws i k ne room ∙ rw (get_or-set_other) (sym (get_or-bits_below n ws k d b))
-    ])
+    flags_set n ws (without_bit ws i) i false l (has_bit-without_bit_same ws i room) (λ k ne. has_bit-without_bit_other ws i k ne room)
 
 -- the flags from `from` on are all set
 pub flags_filled : (n from : ℕ) (old new : List ℕ) → from ≤ n → FillsBits from n old new →
@@ -70,9 +70,7 @@ flags_filled n from old new l f =
 
 pub flags_filled_from : (n from : ℕ) (old new : List ℕ) (xs : List Bool) → bits_below n old ≡ xs → from ≤ n → FillsBits from n old new →
     bits_below n new ≡ take from xs ++ replicate (length xs - from) true
-flags_filled_from n from old new xs e l f =
-    let whole : length xs ≡ n = ap length (sym e) ∙ length-bits_below n old in
-    rw whole (flags_filled n from old new l f ∙ ap (λ (ys : List Bool). take from ys ++ replicate (n - from) true) e)
+flags_filled_from n from old new xs e l f = grind (arith, common_steps, length-bits_below, flags_filled)
 
 -- more flags, none of them set
 pub flags_grown : (n m len : ℕ) (old new : List ℕ) → new ≡ old ++ replicate len 0 → ((k : ℕ) → n ≤ k → has_bit old k ≡ false) →
@@ -194,5 +192,4 @@ levelled_none = grind (arith, common_steps, bit_at-zero)
 
 -- only known indices are free
 pub below_len : (len : ℕ) (indices words groups : List ℕ) (k : ℕ) → IsLevelled len indices words groups → has_bit indices k ≡ true → k < len
-below_len len indices words groups k v set =
-    elim (cases_lt k len) [ inl l ↦ l | inr past ↦ absurd (false≢true (sym (v.past k past) ∙ set)) ]
+below_len len indices words groups k v set = grind (arith, common_steps, cases_lt)

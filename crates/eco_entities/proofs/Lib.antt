@@ -1,6 +1,7 @@
 pub mod NamedEntities
 pub mod Needs
 pub mod Bits
+pub mod Calls
 pub mod Copies
 pub mod HomeStates
 pub mod Kept

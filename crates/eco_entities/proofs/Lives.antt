@@ -1,23 +1,22 @@
 -- A handle that was killed stays dead.
 use Rattle.std.proofs.lemmas.Grind.{common_steps}
-use Rattle.std.proofs.Common.{◌≡◌, ◌≢◌, ℕ, zero, suc, ◌+◌, ◌<◌, ◌≤◌, Bool, true, false, cond, List, [], ◌∷◌, ◌++◌, length, slice_get, slice_set, replicate}
-use Rattle.std.proofs.Common.{refl, ap, Option, Some, None, is_some, inl, inr, arith, nat_lt, Result, Ok, Err, IsTrue, if◌then◌else◌, MatchOption}
-use Rattle.std.proofs.lemmas.Bool.{cases_eq, cases_Bool, ne_eqb, MatchBool-at_true, MatchBool-at_false}
+use Rattle.std.proofs.Common.{◌≡◌, ◌≢◌, ℕ, zero, suc, ◌+◌, ◌<◌, ◌≤◌, Bool, true, false, List, [], ◌∷◌, ◌++◌, slice_get, slice_set, replicate}
+use Rattle.std.proofs.Common.{refl, Option, Some, None, is_some, arith, Ok, Err, if◌then◌else◌, MatchOption}
+use Rattle.std.proofs.lemmas.Bool.{cases_eq, ne_eqb}
 use Rattle.std.proofs.lemmas.Option.{slice_get_within}
 use Rattle.eco_ids.specs.declared.entity.Entity.{Entity}
 use Rattle.eco_ids.specs.declared.refusal.Refusal.{Refusal}
 use Rattle.eco_ids.specs.declared.refusal.Refusal.TheVariants.{NoMoreIds}
-use Rattle.eco_ids.specs.Births.{may_make, unfit_name}
+use Rattle.eco_ids.specs.Births.{unfit_name}
 use Rattle.eco_ids.specs.Indices.{Indexed, IndexState, Retired, Free, Living, record_in, record_of, is_alive, is_free_at, next_entity, with_record, with_new}
-use Rattle.eco_ids.specs.Indices.{with_death, admitted, changed, change_kept}
-use Rattle.eco_ids.specs.Outcome.{Refuses, Answers, is_out_of_memory}
-use Rattle.eco_ids.specs.Renaming.{unfit_rename, may_rename}
-use Rattle.eco_entities.specs.Registration.{Registration, newcomer, given_name, placed, renamed}
-use Rattle.eco_entities.specs.Runs.{Call, Create, Admit, MakeAlive, Kill, Rename, SetPlace, LeadsTo, RunsTo, NobodyLivesTwice}
+use Rattle.eco_ids.specs.Indices.{with_death, admitted}
+use Rattle.eco_ids.specs.Outcome.{Refuses, Answers}
+use Rattle.eco_entities.specs.Registration.{Registration, newcomer, given_name}
+use Rattle.eco_entities.specs.Runs.{Call, LeadsTo, RunsTo, NobodyLivesTwice}
 use Rattle.eco_ids.proofs.Lists.{slice_get-set_same, slice_get-set_other}
 use Rattle.eco_ids.proofs.States.{living_at}
 use Rattle.eco_entities.proofs.States.{free_known, alive_known, next_is}
-use Rattle.eco_entities.proofs.Kept.{next_has_room, IsRoom, with_room}
+use Rattle.eco_entities.proofs.Calls.{called}
 
 -- the state is past the generation: nobody of that generation lives there or will
 abbrev IsPastIn : Option (IndexState Registration) → ℕ → Type 0
@@ -30,10 +29,7 @@ pub record IsPast (w : Indexed Registration) (e : Entity) : Type 0 where
   pub state : IsPastIn (slice_get w.indices e.index) e.generation
 
 past_dead : (o : Option (IndexState Registration)) (g : ℕ) → IsPastIn o g → is_some (record_in o g) ≡ false
-past_dead None g h = refl
-past_dead (Some Retired) g h = refl
-past_dead (Some (Free f)) g h = refl
-past_dead (Some (Living f r)) g h = let ne : g ≢ f = omega arith in ap (λ b. is_some (cond b (Some r) None)) (ne_eqb g f ne)
+past_dead o g h = grind (arith, common_steps, ne_eqb)
 
 pub past_not_alive : (w : Indexed Registration) (e : Entity) → IsPast w e → is_alive w e ≡ false
 past_not_alive w e p = past_dead (slice_get w.indices e.index) e.generation p.state
@@ -43,8 +39,7 @@ past_known None g h = absurd h
 past_known (Some x) g h = (x, refl)
 
 raised_past : (f g : ℕ) (b : Bool) → g ≤ f → IsPastIn (Some (if b then Free (f + 1) else Retired)) g
-raised_past f g true l = omega arith
-raised_past f g false l = tt
+raised_past f g b l = grind (arith, common_steps)
 
 -- another state at some index, which is past too where it is this one
 past_put : (w : Indexed Registration) (e : Entity) (i : ℕ) (x : IndexState Registration) → IsPast w e → (i ≡ e.index → IsPastIn (Some x) e.generation) →
@@ -76,25 +71,6 @@ next_not_past w e x h p same = grind (arith, common_steps, next_is, past_known, 
 
 -- each call leaves it past
 
-past_room : (w : Indexed Registration) (e x : Entity) → IsPast w e → IsPast (with_room w x) e
-past_room w e x p =
-    elim (cases_Bool (nat_lt x.index (length w.indices))) [
-      | inl known ↦ rw known p
-      | inr fresh ↦ rw fresh (past_admitted w e 1 p)
-    ]
-
-past_new : (w : Indexed Registration) (e x : Entity) (r : Registration) → next_entity w ≡ Some x → IsPast w e → IsPast (with_new w x r) e
-past_new w e x r h p =
-    let room : IsRoom w x = next_has_room w x h in
-    rw (← room.settled r) (past_settled (with_room w x) e x r room.free (past_room w e x p))
-
-past_made : (w new : Indexed Registration) (e : Entity) (d : Registration) (r : Result Entity Refusal) (u : Option Refusal) (o : Option Entity) →
-    next_entity w ≡ o → MatchOption u (MatchOption o (Refuses NoMoreIds w r new) (λ x. Answers x (with_new w x d) r new)) (λ why. Refuses why w r new) →
-    IsPast w e → IsPast new e
-past_made w new e d r (Some why) o n h p = rw h.1 p
-past_made w new e d r None None n h p = rw h.1 p
-past_made w new e d r None (Some x) n h p = rw h.1 (past_new w e x d n p)
-
 made_next : (w new : Indexed Registration) (x : Entity) (d : Registration) (u : Option Refusal) (o : Option Entity) → next_entity w ≡ o →
     MatchOption u (MatchOption o (Refuses {A = Entity} NoMoreIds w (Ok x) new) (λ y. Answers y (with_new w y d) (Ok x) new))
     (λ why. Refuses {A = Entity} why w (Ok x) new) → next_entity w ≡ Some x
@@ -102,33 +78,13 @@ made_next w new x d (Some why) o n h = let e : Ok x ≡ Err why = h.0 in cc
 made_next w new x d None None n h = let e : Ok x ≡ Err NoMoreIds = h.0 in cc
 made_next w new x d None (Some y) n h = let e : Ok x ≡ Ok y = h.0 in cc
 
-past_changed : (w : Indexed Registration) (e x : Entity) (change : Registration → Registration) (o : Option Registration) → record_of w x ≡ o → IsPast w e →
-    IsPast (change_kept w x change o) e
-past_changed w e x change None h p = p
-past_changed w e x change (Some r) h p = grind (arith, common_steps, past_put, living_at)
-
-past_renamed : (w new : Indexed Registration) (e x : Entity) (name : Option (List ℕ)) (r : Result (Unit {0}) Refusal) (u : Option Refusal) →
-    MatchOption u (Answers tt (changed w x (renamed name)) r new) (λ why. Refuses why w r new) → IsPast w e → IsPast new e
-past_renamed w new e x name r None h p = rw h.1 (past_changed w e x (renamed name) (record_of w x) refl p)
-past_renamed w new e x name r (Some why) h p = rw h.1 p
+past_changed : (w : Indexed Registration) (e x : Entity) (r new : Registration) → record_of w x ≡ Some r → IsPast w e → IsPast (with_record w x new) e
+past_changed w e x r new h p = grind (arith, common_steps, past_put, living_at)
 
 past_call : (c : Call) (w new : Indexed Registration) (e : Entity) → LeadsTo c w new → IsPast w e → IsPast new e
-past_call (Create name arity) w new e h p =
-    elim (cases_Bool (is_out_of_memory h.0)) [
-      | inl out ↦ let same : IsTrue (may_make given_name w name) × (new ≡ w) = MatchBool-at_true _ _ out h.1 in rw same.1 p
-      | inr step ↦ past_made w new e (newcomer name arity) h.0 (unfit_name given_name w name) (next_entity w) refl (MatchBool-at_false _ _ step h.1) p
-    ]
-past_call (Admit n) w new e h p =
-    grind (arith, common_steps, cases_Bool, past_admitted)
-past_call (MakeAlive x) w new e h p =
-    grind (arith, common_steps, cases_Bool, past_settled)
-past_call (Kill x) w new e h p = rw h.1 (past_died w e x h.0 p)
-past_call (Rename x name) w new e h p =
-    elim (cases_Bool (is_out_of_memory h.0)) [
-      | inl out ↦ let same : IsTrue (may_rename given_name w x false name) × (new ≡ w) = MatchBool-at_true _ _ out h.1 in rw same.1 p
-      | inr step ↦ past_renamed w new e x name h.0 (unfit_rename given_name w x false name) (MatchBool-at_false _ _ step h.1) p
-    ]
-past_call (SetPlace x place) w new e h p = rw h.1 (past_changed w e x (placed place) (record_of w x) refl p)
+past_call c w new e =
+    called (λ v u. IsPast v e → IsPast u e) (λ v p. p) (λ v mid u first second p. second (first p)) (λ v n. past_admitted v e n)
+    (λ v x r free. past_settled v e x r free) (λ v x alive. past_died v e x alive) (λ v x r u h same. past_changed v e x r u h) c w new
 
 past_run : (calls : List Call) (w new : Indexed Registration) (e : Entity) → RunsTo calls w new → IsPast w e → IsPast new e
 past_run [] w new e h p = rw h p

@@ -88,3 +88,8 @@ registry_finds found w name (Some q) r has f e =
 pub registry_named_entity : (found : List ℕ → Option Entity) (w : Indexed Registration) (name : List ℕ) → IsRegistry found (own_name given_name w) →
     found name ≡ named_entity given_name w name
 registry_named_entity found w name r = registry_finds found w name _ r (found_from 0 w.indices name) (found name) refl
+
+-- in an index that is shown
+pub registry_shown : (found : List ℕ → Option Entity) (v w : Indexed Registration) (name : List ℕ) → IsRegistry found (own_name given_name v) → v ≡ w
+    → found name ≡ named_entity given_name w name
+registry_shown found v w name r shown = registry_named_entity found v name r ∙ ap (λ (x : Indexed Registration). named_entity given_name x name) shown

@@ -1,5 +1,5 @@
 -- What pages of names are after each change, and copies of them.
-use Rattle.std.proofs.Common.{◌≡◌, ℕ, Bool, true, false, cond, List, [], ◌∷◌, slice_get, get_or, refl, sym, ap, subst, ◌∙◌, Option, Some, None, option_map}
+use Rattle.std.proofs.Common.{arith, ◌≡◌, ℕ, Bool, true, cond, List, [], ◌∷◌, slice_get, get_or, refl, sym, ap, subst, ◌∙◌, Option, Some, None, option_map}
 use Rattle.std.specs.Prelude.{T}
 use Rattle.std.specs.List.{AllZip}
 use Rattle.std.specs.Map.{lookup}
@@ -14,8 +14,7 @@ use Rattle.eco_entities.specs.Pages.{IsEntry, SameTexts}
 use Rattle.eco_entities.proofs.Copies.{lookup_values}
 
 holds : (b : Bool) → T b → b ≡ true
-holds true h = refl
-holds false h = absurd h
+holds b h = grind arith
 
 module _ {X : Type 0} where
   -- the entry that is read at the index's place

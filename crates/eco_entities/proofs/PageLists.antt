@@ -16,31 +16,29 @@ module _ {P K V : Type 0} (at : K → ℕ) (read : P → K → Option V) where
   value_read pages k n p is there =
       ap (λ m. option_and_then (λ q. read q k) (slice_get pages m)) (sym is) ∙ ap (option_and_then (λ q. read q k)) there
 
+  -- a key whose page has the same value for it
+  same_read : (pages : List P) (n : ℕ) (old new : P) → slice_get pages n ≡ Some old → (j : K) → read new j ≡ read old j
+      → value_at (set pages n new) j ≡ value_at pages j
+  same_read pages n old new there j same_value = elim (cases_eq (at j) n) [
+    | inl same ↦ ap (λ m. option_and_then (λ q. read q j) (slice_get (set pages n new) m)) same
+        ∙ (ap (option_and_then (λ q. read q j)) (slice_get-set_there pages n new old there)
+        ∙ (same_value ∙ sym (value_read pages j n old (sym same) there)))
+    | inr away ↦ ap (option_and_then (λ q. read q j)) (slice_get-set_other pages n (at j) new away)
+  ]
+
   -- another page
   pub page_changed : (pages : List P) (k : K) (n : ℕ) (old new : P) (v : Option V) → n ≡ at k → slice_get pages n ≡ Some old
       → ChangesAt (read old) (read new) k v → ChangesAt (value_at pages) (value_at (set pages n new)) k v
   page_changed pages k n old new v is there change = record {
     here = ap (λ m. option_and_then (λ q. read q k) (slice_get (set pages n new) m)) (sym is)
         ∙ (ap (option_and_then (λ q. read q k)) (slice_get-set_there pages n new old there) ∙ change.here);
-    others = λ j apart. elim (cases_eq (at j) n) [
-      | inl same ↦ ap (λ m. option_and_then (λ q. read q j) (slice_get (set pages n new) m)) same
-          ∙ (ap (option_and_then (λ q. read q j)) (slice_get-set_there pages n new old there)
-          ∙ (change.others j apart ∙ sym (value_read pages j n old (sym same) there)))
-      | inr away ↦ ap (option_and_then (λ q. read q j)) (slice_get-set_other pages n (at j) new away)
-    ];
+    others = λ j apart. same_read pages n old new there j (change.others j apart);
   }
 
   -- a page that has the same values
   pub page_kept : (pages : List P) (n : ℕ) (old new : P) → slice_get pages n ≡ Some old → KeepsAnswers (read old) (read new)
       → KeepsAnswers (value_at pages) (value_at (set pages n new))
-  page_kept pages n old new there kept = record {
-    all = λ j. elim (cases_eq (at j) n) [
-      | inl same ↦ ap (λ m. option_and_then (λ q. read q j) (slice_get (set pages n new) m)) same
-          ∙ (ap (option_and_then (λ q. read q j)) (slice_get-set_there pages n new old there)
-          ∙ (kept.all j ∙ sym (value_read pages j n old (sym same) there)))
-      | inr away ↦ ap (option_and_then (λ q. read q j)) (slice_get-set_other pages n (at j) new away)
-    ];
-  }
+  page_kept pages n old new there kept = record { all = λ j. same_read pages n old new there j (kept.all j) }
 
   pub absent : (pages : List P) (k : K) (n : ℕ) → n ≡ at k → length pages ≤ n → value_at pages k ≡ None
   absent pages k n is past =

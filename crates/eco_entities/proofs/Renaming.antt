@@ -1,10 +1,10 @@
 -- What a rename answers.
 use Rattle.std.proofs.lemmas.Grind.{common_steps}
 use Rattle.std.proofs.Common.{arith}
-use Rattle.std.proofs.Common.{◌≡◌, ℕ, Bool, true, false, ◌&&◌, List, [], ◌∷◌, refl, sym, ap, ◌∙◌, inl, inr, Option, Some, None, Result, Ok, Err}
-use Rattle.std.proofs.Common.{MatchOption, eqb, eqb-true, eq-eqb}
-use Rattle.std.proofs.lemmas.Bool.{cases_Bool, false≢true, and_parts, and_from}
-use Rattle.std.proofs.lemmas.Option.{none-some, same_Some}
+use Rattle.std.proofs.Common.{◌≡◌, ℕ, Bool, true, false, ◌&&◌, List, [], ◌∷◌, refl, sym, ap, ◌∙◌, Option, Some, None, Result, Ok, Err}
+use Rattle.std.proofs.Common.{MatchOption, eqb, eqb-true}
+use Rattle.std.proofs.lemmas.Bool.{cases_Bool, and_parts}
+use Rattle.std.proofs.lemmas.Option.{same_Some}
 use Rattle.eco_ids.specs.declared.entity.Entity.{Entity}
 use Rattle.eco_ids.specs.declared.refusal.Refusal.{Refusal}
 use Rattle.eco_ids.specs.declared.refusal.Refusal.TheVariants.{BadName, NameTaken}
@@ -51,9 +51,7 @@ rename_same w e name alive good own = rw (alive, good, ap (is_called name) own, 
 -- a name is refused for itself, and not for want of memory
 unfit_whys : (A : Type 0) (a b : Bool) (why : Refusal) → first_refusal ((a, BadName) ∷ (b, NameTaken) ∷ []) ≡ Some why →
     is_out_of_memory {A = A} (Err why) ≡ false
-unfit_whys A true b why h = rw (← same_Some BadName why h) refl
-unfit_whys A false true why h = rw (← same_Some NameTaken why h) refl
-unfit_whys A false false why h = absurd (none-some why h)
+unfit_whys A a b why h = grind (arith, common_steps, same_Some)
 
 pub unfit_why : (A : Type 0) (w : Indexed Registration) (name : Option (List ℕ)) (why : Refusal) → unfit_name given_name w name ≡ Some why →
     is_out_of_memory {A = A} (Err why) ≡ false
@@ -75,8 +73,7 @@ pub same_entity : (a b : Entity) → true ≡ (eqb a.index b.index && eqb a.gene
 same_entity a b h = grind (arith, common_steps, and_parts, eqb-true)
 
 pub other_entity : (a b : Entity) → false ≡ (eqb a.index b.index && eqb a.generation b.generation) → a ≡ b → ⊥
-other_entity a b h e =
-    false≢true (h ∙ and_from _ _ (eq-eqb _ _ (ap (λ (x : Entity). x.index) e)) (eq-eqb _ _ (ap (λ (x : Entity). x.generation) e)))
+other_entity a b h e = grind (arith, common_steps)
 
 -- a name that nobody has is fit
 pub fit_free : (w : Indexed Registration) (name : List ℕ) → is_name name ≡ true → named_entity given_name w name ≡ None
@@ -85,7 +82,4 @@ fit_free w name good free = rw (good, free) refl
 
 pub rename_free : (w : Indexed Registration) (e : Entity) (name : List ℕ) → is_alive w e ≡ true → is_name name ≡ true
     → named_entity given_name w name ≡ None → RenamesWith given_name renamed w e false (Some name) (Ok tt) (changed w e (renamed (Some name)))
-rename_free w e name alive good free = elim (cases_Bool (is_called name (own_name given_name w e))) [
-  | inl t ↦ rw (alive, good, t) (refl, refl)
-  | inr f ↦ rw (alive, good, f, free) (refl, refl)
-]
+rename_free w e name alive good free = grind (arith, common_steps)

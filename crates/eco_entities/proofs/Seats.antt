@@ -1,5 +1,6 @@
 -- Where an index's entry is among entries in their order, and what changes there.
-use Rattle.std.proofs.Common.{◌≡◌, ℕ, zero, suc, ◌<◌, ◌≤◌, Bool, true, false, not, List, [], ◌∷◌, drop, slice_get}
+use Rattle.std.proofs.lemmas.Grind.{common_steps}
+use Rattle.std.proofs.Common.{◌≡◌, ℕ, zero, suc, ◌<◌, ◌≤◌, Bool, true, not, List, [], ◌∷◌, drop, slice_get}
 use Rattle.std.proofs.Common.{refl, sym, ap, subst, ◌∙◌, Some, None, Result, Ok, Err, arith}
 use Rattle.std.specs.Prelude.{MatchResult}
 use Rattle.std.proofs.lemmas.Option.{none-some, same_Some}
@@ -30,9 +31,7 @@ pub greater_is : (x y : ℕ) → y < x → nat_cmp x y ≡ Greater
 greater_is x y h = sym (nat_cmp_is x y Greater h)
 
 is_less : (x y : ℕ) → is_lt (nat_cmp x y) ≡ true → x < y
-is_less x y h = by_ranked (x < y) (x ≡ y) (y < x) (nat_cmp x y) (ranked x y _ refl) (λ _ p. p)
-    (λ is _. absurd (let both : false ≡ true = ap is_lt (sym is) ∙ h in cc))
-    (λ is _. absurd (let both : false ≡ true = ap is_lt (sym is) ∙ h in cc))
+is_less x y h = grind (arith, common_steps)
 
 -- whether a key is another index's
 abbrev pub other : ℕ → ℕ → Bool

@@ -3,7 +3,7 @@ use Rattle.std.proofs.lemmas.Grind.{common_steps}
 use Rattle.std.proofs.Common.{◌≡◌, ◌≢◌, ℕ, zero, suc, ◌<◌, ◌==◌, ◌&&◌, Bool, true, false, cond, if◌then◌else◌, List, [], ◌∷◌, ◌++◌, length, set, get_or}
 use Rattle.std.proofs.Common.{slice_get, replicate, refl, sym, ap, ◌∙◌, Option, Some, None, is_some, option_map, option_and_then, arith}
 use Rattle.std.proofs.lemmas.Bool.{false≢true}
-use Rattle.std.proofs.lemmas.Option.{none-some, same_Some, slice_get_read}
+use Rattle.std.proofs.lemmas.Option.{slice_get_read}
 use Rattle.eco_ids.specs.declared.entity.Entity.{Entity}
 use Rattle.eco_ids.specs.Indices.{Indexed, IndexState, Retired, Free, Living, record_in, record_of, is_alive, is_free_in, map_state}
 use Rattle.eco_ids.specs.Renaming.{own_name}
@@ -14,7 +14,6 @@ use Rattle.eco_entities.specs.Labels.{label_of}
 use Rattle.eco_entities.specs.declared.slot.Slot.{Slot}
 use Rattle.eco_entities.specs.declared.slots.Slots.TheInside.{Inside}
 use Rattle.eco_entities.specs.declared.slot.State.{State}
-use Rattle.eco_entities.specs.declared.slot.State.TheVariants as state
 
 -- names by index
 abbrev pub Names : Type 0
@@ -64,28 +63,17 @@ states-copies label (y ∷ ys) n x f = ap (λ zs. state_of (label 0) y ∷ zs) (
 
 -- ---- who lives
 
-at_generation : (l : Option (List ℕ)) (s : Slot) (b : Bool) →
-    cond b (Some (registration_of l s)) None ≡ option_map (registration_of l) (cond b (Some s) None)
-at_generation l s true = refl
-at_generation l s false = refl
-
 in_state : (l : Option (List ℕ)) (s : Slot) (g : ℕ) (st : State) →
     record_in (Some (state_at st s.generation (registration_of l s))) g
     ≡ option_map (registration_of l) (if is_living st && g == s.generation then Some s else None)
-in_state l s g state.Retired = refl
-in_state l s g state.Free = refl
-in_state l s g state.Plain = at_generation l s (g == s.generation)
-in_state l s g state.Named = at_generation l s (g == s.generation)
-in_state l s g state.Component = at_generation l s (g == s.generation)
-in_state l s g state.NamedComponent = at_generation l s (g == s.generation)
+in_state l s g st = grind (arith, common_steps)
 
 in_slot : (l : Option (List ℕ)) (o : Option Slot) (g : ℕ) → record_in (option_map (state_of l) o) g ≡ option_map (registration_of l) (living_in o g)
 in_slot l None g = refl
 in_slot l (Some s) g = in_state l s g s.state
 
 same_if : (s t : Slot) (b : Bool) → cond b (Some s) None ≡ Some t → t ≡ s
-same_if s t true h = sym (same_Some s t h)
-same_if s t false h = absurd (none-some t h)
+same_if s t b h = grind arith
 
 living_same : (s t : Slot) (g : ℕ) → living_in (Some s) g ≡ Some t → t ≡ s
 living_same s t g h = same_if s t (is_living s.state && g == s.generation) h
@@ -95,24 +83,20 @@ abbrev pub Shows : ℕ → Names → List Slot → Indexed Registration → Type
 Shows limit label slots w = ◌≡◌ {A = Indexed Registration} (record { limit = limit; indices = states label slots }) w
 
 some_map : (l : Option (List ℕ)) (o : Option Slot) → is_some (option_map (registration_of l) o) ≡ is_some o
-some_map l None = refl
-some_map l (Some s) = refl
+some_map l o = grind arith
 
 place_map : (l : Option (List ℕ)) (o : Option Slot) → option_and_then (λ r. r.place) (option_map (registration_of l) o) ≡ option_and_then place_in o
-place_map l None = refl
-place_map l (Some s) = refl
+place_map l o = grind arith
 
 arity_map : (l : Option (List ℕ)) (o : Option Slot) → option_and_then (λ r. r.arity) (option_map (registration_of l) o) ≡ option_and_then arity_in o
-arity_map l None = refl
-arity_map l (Some s) = refl
+arity_map l o = grind arith
 
 -- the name in a slot with this label
 abbrev pub name_in : Option (List ℕ) → Slot → Option (List ℕ)
 name_in l s = if is_named s.state then l else None
 
 name_map : (l : Option (List ℕ)) (o : Option Slot) → option_and_then given_name (option_map (registration_of l) o) ≡ option_and_then (name_in l) o
-name_map l None = refl
-name_map l (Some s) = refl
+name_map l o = grind arith
 
 -- the labels and the slots of an index
 abbrev pub labels : Inside → Names
@@ -149,12 +133,7 @@ module _ (kept : Inside) (w : Indexed Registration) (view : View kept w) (e : En
 nameless : (l : Option (List ℕ)) (s : Slot) (st : State) → is_named st ≡ false →
     state_at st s.generation (record (registration_of l s) { name = if is_named st then l else None })
     ≡ map_state (renamed None) (state_at st s.generation (record (registration_of l s) { name = if is_named st then l else None }))
-nameless l s state.Retired h = refl
-nameless l s state.Free h = refl
-nameless l s state.Plain h = refl
-nameless l s state.Named h = absurd (false≢true (sym h))
-nameless l s state.Component h = refl
-nameless l s state.NamedComponent h = absurd (false≢true (sym h))
+nameless l s st h = grind (arith, common_steps)
 
 pub nameless_kept : (l : Option (List ℕ)) (s : Slot) → is_named s.state ≡ false → state_of l s ≡ map_state (renamed None) (state_of l s)
 nameless_kept l s h = nameless l s s.state h
@@ -162,28 +141,13 @@ nameless_kept l s h = nameless l s s.state h
 -- ---- what a slot shows, by its state
 
 pub living_shows : (st : State) (g : ℕ) (r : Registration) → is_living st ≡ true → state_at st g r ≡ Living g r
-living_shows state.Retired g r h = absurd (false≢true h)
-living_shows state.Free g r h = absurd (false≢true h)
-living_shows state.Plain g r h = refl
-living_shows state.Named g r h = refl
-living_shows state.Component g r h = refl
-living_shows state.NamedComponent g r h = refl
+living_shows st g r h = grind (arith, common_steps)
 
 pub nobody_shows : (n : ℕ) (st : State) (g : ℕ) (r : Registration) → is_living st ≡ false → entity_in n (Some (state_at st g r)) ≡ None
-nobody_shows n state.Retired g r h = refl
-nobody_shows n state.Free g r h = refl
-nobody_shows n state.Plain g r h = absurd (false≢true (sym h))
-nobody_shows n state.Named g r h = absurd (false≢true (sym h))
-nobody_shows n state.Component g r h = absurd (false≢true (sym h))
-nobody_shows n state.NamedComponent g r h = absurd (false≢true (sym h))
+nobody_shows n st g r h = grind (arith, common_steps)
 
 free_shows : (st : State) (g : ℕ) (r : Registration) → is_free (state_at st g r) ≡ true → (r' : Registration) → state_at st g r' ≡ Free g
-free_shows state.Retired g r h r' = absurd (false≢true h)
-free_shows state.Free g r h r' = refl
-free_shows state.Plain g r h r' = absurd (false≢true h)
-free_shows state.Named g r h r' = absurd (false≢true h)
-free_shows state.Component g r h r' = absurd (false≢true h)
-free_shows state.NamedComponent g r h r' = absurd (false≢true h)
+free_shows st g r h r' = grind (arith, common_steps)
 
 -- a free slot shows the same under each label
 pub free_slot : (l l' : Option (List ℕ)) (s : Slot) → is_free (state_of l s) ≡ true → state_of l' s ≡ Free s.generation

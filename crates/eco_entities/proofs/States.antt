@@ -13,10 +13,7 @@ use Rattle.eco_ids.proofs.States.{record_at}
 -- who is there
 
 free_in : {A : Type 0} (o : Option (IndexState A)) (g : ℕ) → is_free_in o g ≡ true → o ≡ Some (Free g)
-free_in None g h = absurd (false≢true h)
-free_in (Some Retired) g h = absurd (false≢true h)
-free_in (Some (Free f)) g h = ap (λ n. Some (Free n)) (eqb-true f g h)
-free_in (Some (Living f r)) g h = absurd (false≢true h)
+free_in o g h = grind (arith, common_steps, eqb-true)
 
 -- the state of a free handle's index
 pub free_known : {A : Type 0} (w : Indexed A) (e : Entity) → is_free_at w e ≡ true → slice_get w.indices e.index ≡ Some (Free e.generation)

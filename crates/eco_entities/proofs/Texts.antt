@@ -1,6 +1,6 @@
 -- Look-ups by text in the trees of names.
 use Rattle.std.proofs.lemmas.Grind.{common_steps}
-use Rattle.std.proofs.Common.{◌≡◌, ℕ, Bool, true, false, cond, List, ap, ◌∙◌, Option, arith}
+use Rattle.std.proofs.Common.{◌≡◌, ℕ, Bool, true, false, cond, List, Option, arith}
 use Rattle.std.specs.Prelude.{String}
 use Rattle.std.specs.BTreeMap.{BTreeMap, get_by_text}
 use Rattle.std.specs.Map.{update}
@@ -19,14 +19,8 @@ changes_text bs m n w u = grind (arith, common_steps, cond-true, bytes_eq-Decide
 module _ (is_left : List ℕ → Bool) (left left' right right' : List ℕ → Option Entity) (k : List ℕ) (v : Option Entity) where
   pub left_changes : is_left k ≡ true → ChangesAt left left' k v
       → ChangesAt (λ n. cond (is_left n) (left n) (right n)) (λ n. cond (is_left n) (left' n) (right n)) k v
-  left_changes here c = record {
-    here = ap (λ b. cond b (left' k) (right k)) here ∙ c.here;
-    others = λ j apart. ap (λ o. cond (is_left j) o (right j)) (c.others j apart);
-  }
+  left_changes here c = grind (arith, common_steps)
 
   pub right_changes : is_left k ≡ false → ChangesAt right right' k v
       → ChangesAt (λ n. cond (is_left n) (left n) (right n)) (λ n. cond (is_left n) (left n) (right' n)) k v
-  right_changes here c = record {
-    here = ap (λ b. cond b (left k) (right' k)) here ∙ c.here;
-    others = λ j apart. ap (λ o. cond (is_left j) (left j) o) (c.others j apart);
-  }
+  right_changes here c = grind (arith, common_steps)

@@ -1,5 +1,5 @@
 -- Short names in their trees, after each change of a tree.
-use Rattle.std.proofs.Common.{◌≡◌, ℕ, ◌%◌, ◌≤◌, false, List, [], length, set, slice_get, refl, sym, ap, subst, ◌∙◌, Option, Some, None, inl, inr, Result, Ok}
+use Rattle.std.proofs.Common.{arith, ◌≡◌, ℕ, ◌%◌, ◌≤◌, false, List, [], length, set, slice_get, sym, ap, subst, ◌∙◌, Option, Some, None, inl, inr, Result, Ok}
 use Rattle.std.proofs.Common.{Err}
 use Rattle.std.specs.Prelude.{OnOk, OnErr}
 use Rattle.std.proofs.lemmas.Bool.{false_from_ne_true}
@@ -12,7 +12,6 @@ use Rattle.std.specs.Cmp.Lexicographic.{slice_cmp}
 use Rattle.std.specs.Ordering.{is_eq, nat_cmp, ordering_then}
 use Rattle.std.specs.Str.{bytes_eq}
 use Rattle.std.specs.declared.cmp.Ordering.{Ordering}
-use Rattle.std.specs.declared.cmp.Ordering.TheVariants.{Less, Equal, Greater}
 use Rattle.eco_ids.specs.declared.entity.Entity.{Entity}
 use Rattle.eco_entities.specs.declared.key.Key.{Key}
 use Rattle.eco_entities.specs.Changes.{ChangesAt, KeepsAnswers}
@@ -21,9 +20,7 @@ use Rattle.eco_entities.proofs.PageLists.{absent, page_changed, page_kept, value
 use Rattle.eco_entities.proofs.Registers.{cases_text}
 
 apart_then : (o p : Ordering) → is_eq p ≡ false → is_eq (ordering_then o p) ≡ false
-apart_then Less p h = refl
-apart_then Equal p h = h
-apart_then Greater p h = refl
+apart_then o p h = grind arith
 
 -- a change under one key, seen by texts
 changes_by : (bs : List ℕ) (m n : BTreeMap Key Entity) (w : Option Entity) → UpdatesBy key_cmp (text_cmp bs) m n w

@@ -1,5 +1,7 @@
 -- Whether some living entity has a pair.
-use Rattle.std.proofs.Common.{true≢false, ◌≡◌, Bool, true, false, ◌||◌, ◌&&◌, List, [], ◌∷◌, is_some, refl, sym, ap, ◌∙◌, IsTrue, ◌↔◌}
+use Rattle.std.proofs.Math.Bool.{and-true}
+use Rattle.std.proofs.Common.{true≢false, ◌≡◌, Bool, false, ◌||◌, List, [], ◌∷◌, is_some, refl, sym, ap, ◌∙◌, IsTrue, ◌↔◌}
+use Rattle.std.proofs.lemmas.Bool.{false_from_ne_true}
 use Rattle.std.specs.List.{list_any}
 use Rattle.std.specs.FinMap.Entries.{find}
 use Rattle.eco_ids.specs.declared.entity.Entity.{Entity}
@@ -21,13 +23,9 @@ use Rattle.eco_world.proofs.Held.{Held, keys}
 
 -- ---- a pair of a relationship
 
-and_true : (b : Bool) → (b && true) ≡ b
-and_true true = refl
-and_true false = refl
-
 pair_matches : (r : Entity) (i : Id) → pattern_matches (pattern.Two (Is r) Any) i ≡ is_pair_of r i
 pair_matches r (One e) = refl
-pair_matches r (Two q t) = and_true (entity_eq r q)
+pair_matches r (Two q t) = and-true (entity_eq r q)
 
 pair_held : (r : Entity) (held : Held) → list_any (pattern_matches (pattern.Two (Is r) Any)) (keys held) ≡ list_any (λ (q : Id × Value). is_pair_of r q.0) held
 pair_held r [] = refl
@@ -37,9 +35,7 @@ pair_held r (p ∷ held) = ap (λ b. b || list_any (pattern_matches (pattern.Two
 pair_living : (r : Entity) (ps : List (Entity × Record)) →
     list_any (λ (p : Entity × Record). list_any (pattern_matches (pattern.Two (Is r) Any)) (type_of_record p.1)) ps
     ≡ list_any (λ (p : Entity × Record). list_any (λ (q : Id × Value). is_pair_of r q.0) p.1.held) ps
-pair_living r [] = refl
-pair_living r (p ∷ ps) = ap (λ b. b || list_any (λ (p : Entity × Record). list_any (pattern_matches (pattern.Two (Is r) Any)) (type_of_record p.1)) ps)
-    (pair_held r p.1.held) ∙ ap (λ b. list_any (λ (q : Id × Value). is_pair_of r q.0) p.1.held || b) (pair_living r ps)
+pair_living r ps = λ t. list_any (λ (p : Entity × Record). pair_held r p.1.held t) ps
 
 -- some living entity has a pair of the relationship
 pub used_is : (w : WorldState) (r : Entity) → list_any (λ (p : Entity × Record). list_any (pattern_matches (pattern.Two (Is r) Any)) (type_of_record p.1))
@@ -71,14 +67,10 @@ target_is w r t = (to, from)
 -- some living entity has the id
 pub held_is : (i : Id) (ps : List (Entity × Record)) → list_any (λ (p : Entity × Record). list_any (pattern_matches (exactly i)) (type_of_record p.1)) ps
     ≡ list_any (λ (p : Entity × Record). is_some (find id_cmp i p.1.held)) ps
-held_is i [] = refl
-held_is i (p ∷ ps) = λ t. exactly_held i p.1.held t || held_is i ps t
+held_is i ps = λ t. list_any (λ (p : Entity × Record). exactly_held i p.1.held t) ps
 
 -- where nobody has it, none does
 pub none_has : (w : WorldState) (i : Id) → is_held w i ≡ false → (e : Entity) → has w e i ≡ false
-none_has w i none e = by (has w e i) refl
-  where
-    by : (b : Bool) → has w e i ≡ b → b ≡ false
-    by true there = let own = entry_of (record_of w e) i there in absurd
-        (true≢false (sym (passes_some (λ r. is_some (find id_cmp i r.held)) (entities w) e (own.0, own.2, ap is_some own.3)) ∙ none))
-    by false absent = refl
+none_has w i none e = false_from_ne_true (has w e i) (λ there.
+    let own = entry_of (record_of w e) i there in
+    true≢false (sym (passes_some (λ r. is_some (find id_cmp i r.held)) (entities w) e (own.0, own.2, ap is_some own.3)) ∙ none))

@@ -1,6 +1,7 @@
 -- What the store makes of an entity's record, and what a step makes of it.
 use Rattle.std.proofs.Common.{◌≡◌, Bool, true, false, cond, ◌&&◌, T, List, [], ◌∷◌, Option, Some, None, option_map, unwrap_or, refl, sym, ap, ◌∙◌, subst}
-use Rattle.std.proofs.Common.{is_some, true≢false, IsTrue, IsFalse, MatchBool, Result, Ok, Err, OnOk, OnErr}
+use Rattle.std.proofs.Common.{is_some, true≢false, IsTrue, MatchBool, Result, Ok, Err, OnOk, OnErr}
+use Rattle.std.proofs.lemmas.Bool.{false_from_ne_true}
 use Rattle.std.specs.List.{list_any}
 use Rattle.std.specs.FinMap.Entries.{find, is_sorted}
 use Rattle.eco_ids.specs.declared.entity.Entity.{Entity}
@@ -22,10 +23,11 @@ use Rattle.eco_traits.specs.Target.{type_of_entity, type_of_record}
 use Rattle.eco_world.specs.Types.{type_of}
 use Rattle.eco_world.proofs.Held.{Held, keys, none_written, retyped_without, written_is}
 
--- what holds of either state that a call may leave holds of the one that it left
-pub by_result : {A B S : Type 0} (P : S → Type 0) (r : Result A B) (old new x : S) → OnOk r (new ≡ x) → OnErr r (new ≡ old) → P x → P old → P new
-by_result P (Ok a) old new x ok err done undone = subst P (sym ok) done
-by_result P (Err b) old new x ok err done undone = subst P (sym err) undone
+-- what holds of either state that a call may leave, as it is seen, holds of the one that it left
+pub by_result : {A B S X : Type 0} (P : X → Type 0) (seen : S → X) (r : Result A B) (old new : S) (x : X) → OnOk r (seen new ≡ x) → OnErr r (new ≡ old) →
+    P x → P (seen old) → P (seen new)
+by_result P seen (Ok a) old new x ok err done undone = subst P (sym ok) done
+by_result P seen (Err b) old new x ok err done undone = subst (λ s. P (seen s)) (sym err) undone
 
 module _ (w : WorldState) (e : Entity) where
   -- changes that do the same to the entity's record
@@ -55,11 +57,8 @@ module _ (w : WorldState) (e : Entity) where
   pub nothing_taken : (i : Id) → has w e i ≡ false → without w nobody (λ x j. entity_eq x e && id_eq j i) ≡ w
   nothing_taken i absent =
       without_one w e (λ j. id_eq j i)
-      ∙ changed_same (keeping (λ j. id_eq j i)) (λ d at. keeps_all (λ j. id_eq j i) d (λ j there. by d at j there (id_eq j i) refl))
-    where
-      by : (d : Record) → record_of w e ≡ Some d → (j : Id) → IsTrue (is_some (find id_cmp j d.held)) → (b : Bool) → id_eq j i ≡ b → IsFalse b
-      by d at j there true is = absurd (not_both (subst (λ k. IsTrue (is_some (find id_cmp k d.held))) (id_eq_is j i is) there) (has_at i d at ∙ absent))
-      by d at j there false is = refl
+      ∙ changed_same (keeping (λ j. id_eq j i)) (λ d at. keeps_all (λ j. id_eq j i) d (λ j there. false_from_ne_true (id_eq j i) (λ is.
+      not_both (subst (λ k. IsTrue (is_some (find id_cmp k d.held))) (id_eq_is j i is) there) (has_at i d at ∙ absent))))
 
   pub lists_at : (i : Id) (d : Record) → record_of w e ≡ Some d → has_item id_cmp (record_ids d) i ≡ has w e i
   lists_at i d at = sym (keys_find d.held i) ∙ has_at i d at

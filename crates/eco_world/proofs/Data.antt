@@ -1,5 +1,5 @@
 -- What is data has fields in the tables, and so its values are found there.
-use Rattle.std.proofs.Common.{◌≡◌, ◌≤◌, ◌<◌, ℕ, zero, suc, Bool, true, false, not, ◌&&◌, ◌||◌, ◌==◌, nat_lt, List, [], ◌∷◌, get_or, length, Option}
+use Rattle.std.proofs.Common.{◌≡◌, ◌≤◌, ◌<◌, ℕ, Bool, true, false, not, ◌&&◌, ◌||◌, ◌==◌, nat_lt, List, [], ◌∷◌, get_or, length, Option}
 use Rattle.std.proofs.Common.{None, Some, is_some, option_and_then, option_map, unwrap_or, if◌then◌else◌, IfSome, IsSome, IsTrue, MatchOption}
 use Rattle.std.proofs.Common.{arith, refl, sym, ap, subst, ◌∙◌, true≢false}
 use Rattle.std.specs.Option.{option_or}
@@ -30,9 +30,7 @@ use Rattle.eco_world.specs.Refs.{StandsInRow}
 -- ---- an arity is one field at least
 
 proper_wide : (w : WorldState) (o : Option ℕ) → IsTrue (is_proper_arity w.edition o) → is_some o ≡ true → 1 ≤ fields_for o
-proper_wide w None proper some = absurd (true≢false (sym some))
-proper_wide w (Some zero) proper some = absurd (true≢false (sym proper))
-proper_wide w (Some (suc n)) proper some = omega arith
+proper_wide w o proper some = grind arith
 
 own_wide : (w : WorldState) → IsLawful w → (e : Entity) → is_some (arity_of w e) ≡ true → 1 ≤ fields_for (arity_of w e)
 own_wide w lawful e = by (record_of w e) refl

@@ -1,5 +1,5 @@
 -- The cleanup's answer, seen as a delete of the world.
-use Rattle.std.proofs.Common.{◌≡◌, Bool, true, false, true≢false, ◌↔◌, List, [], ◌∷◌, IsTrue, MatchBool, Result, sym, subst, is_some, inl, inr}
+use Rattle.std.proofs.Common.{◌≡◌, true, false, true≢false, ◌↔◌, List, [], ◌∷◌, IsTrue, Result, sym, subst, is_some, inl, inr}
 use Rattle.std.specs.FinMap.Entries.{find}
 use Rattle.eco_ids.specs.declared.entity.Entity.{Entity}
 use Rattle.eco_ids.specs.declared.entity.TheConstants.{DELETE}
@@ -8,11 +8,9 @@ use Rattle.eco_ids.specs.declared.refusal.Refusal.{Refusal}
 use Rattle.eco_ids.specs.Builtin.{is_builtin, is_builtins}
 use Rattle.eco_ids.specs.Cleanup.{Deletes, Ends, HoldsOn, IsDoomed}
 use Rattle.eco_ids.specs.Delete.{DeletesOne, DeletesWith, may_delete, may_delete_with}
-use Rattle.eco_ids.specs.Lawful.{IsLawful}
-use Rattle.eco_ids.specs.Laws.{Keeps}
 use Rattle.eco_ids.specs.Least.{Least, root, next}
 use Rattle.eco_ids.specs.Order.{entity_cmp, entity_eq, has_item, id_cmp}
-use Rattle.eco_ids.specs.Outcome.{Meets, is_out_of_memory}
+use Rattle.eco_ids.specs.Outcome.{Meets}
 use Rattle.eco_ids.specs.World.{WorldState, has, is_alive, entities, record_of}
 use Rattle.eco_ids.proofs.DeletesEnd.{deletes_end}
 use Rattle.eco_ids.proofs.Facts.{or_left, or_parts}
@@ -23,15 +21,7 @@ use Rattle.eco_ids.proofs.Meaning.{least}
 use Rattle.eco_ids.proofs.Overlaps.{entity_eq_is, entity_eq_itself}
 use Rattle.eco_ids.proofs.Passing.{own_from_passed, passed_from_own}
 use Rattle.eco_world.specs.Queries.{holders}
-
--- a call that meets a step which keeps the world lawful does so
-pub met_lawful : (Step : WorldState → Result (Unit {0}) Refusal → WorldState → Type 0) (may : WorldState → Bool) (w new : WorldState)
-    (r : Result (Unit {0}) Refusal) → Keeps Step → IsLawful w → Meets (Step w) (may w) w r new → IsLawful new
-met_lawful Step may w new r keeps was =
-    elim (is_out_of_memory r) as (λ b. MatchBool b (IsTrue (may w) × (new ≡ w)) (Step w r new) → IsLawful new) [
-      | true ↦ λ m. subst IsLawful (sym m.1) was
-      | false ↦ keeps w r new was
-    ]
+use Rattle.eco_world.proofs.Steps.{meets_as}
 
 -- the same roots in other words take the same
 doomed_alike : (w : WorldState) (P Q : Entity → Type 0) (members : List Entity) → ((e : Entity) → P e ↔ Q e) → IsDoomed w P members → IsDoomed w Q members
@@ -46,19 +36,12 @@ doomed_alike w P Q members same d = record {
 module _ (w new : WorldState) (r : Result (Unit {0}) Refusal) (roots : List Entity) (IsRoot : Entity → Type 0)
     (same : (e : Entity) → IsTrue (has_item entity_cmp roots e) ↔ IsRoot e) (alive : (e : Entity) → IsRoot e → IsTrue (is_alive w e))
     (ends : (members : List Entity) → IsDoomed w (λ e. IsTrue (has_item entity_cmp roots e)) members → Meets (Ends w members) true w r new) where
-  ended : (members : List Entity) → IsDoomed w IsRoot members → Meets (Ends w members) true w r new → Meets (Deletes w IsRoot) true w r new
-  ended members d =
-      elim (is_out_of_memory r) as (λ b. MatchBool b (IsTrue true × (new ≡ w)) (Ends w members r new) →
-      MatchBool b (IsTrue true × (new ≡ w)) (Deletes w IsRoot r new)) [
-        | true ↦ λ wanting. wanting
-        | false ↦ λ end. (members, d, end)
-      ]
-
   deleted : Meets (Deletes w IsRoot) true w r new
   deleted =
       let known = deletes_end w (λ e. IsTrue (has_item entity_cmp roots e)) (λ e. decide_bool (has_item entity_cmp roots e)) (λ e h. alive e ((same e).0 h)) in
       let members = known.2.0 in
-      ended members (doomed_alike w _ IsRoot members same known.2.1) (ends members known.2.1)
+      meets_as (Ends w members) (Deletes w IsRoot) true true w new w new r (λ wants is. (wants, is))
+      (λ end. (members, doomed_alike w _ IsRoot members same known.2.1, end)) (ends members known.2.1)
 
 -- e alone
 pub only : (e x : Entity) → IsTrue (has_item entity_cmp (e ∷ []) x) ↔ (x ≡ e)

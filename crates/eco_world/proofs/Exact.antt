@@ -4,6 +4,7 @@ use Rattle.std.proofs.Common.{IsTrue, IsFalse, Contains, Option, Some, None, opt
 use Rattle.std.proofs.Common.{arith}
 use Rattle.std.proofs.Common.{true≢false, inl, inr, ◌⊎◌, ◌||◌, is_some, unwrap_or, nat_lt, le-leb, length-append}
 use Rattle.std.proofs.lemmas.List.{append-nil}
+use Rattle.std.proofs.lemmas.List.Elements.{All-contains, All-contains_itself, All-filter, filter_passes}
 use Rattle.std.proofs.lemmas.Option.{none-some, slice_get-map, slice_get_past}
 use Rattle.eco_ids.specs.declared.id.Id.{Id}
 use Rattle.eco_ids.specs.declared.refusal.Refusal.{Refusal}
@@ -32,16 +33,10 @@ use Rattle.eco_world.proofs.Layouts.{element_cases, here, no_element, there}
 -- ---- listings
 
 kept : {A : Type 0} (q : A → Bool) (xs : List A) (x : A) → Contains (filter q xs) x → Contains xs x × IsTrue (q x)
-kept q [] x h = absurd (no_element x h)
-kept q (y ∷ ys) x h = by (q y) refl h (kept q ys x)
-  where
-    by : (b : Bool) → q y ≡ b → Contains (cond b (y ∷ filter q ys) (filter q ys)) x → (Contains (filter q ys) x → Contains ys x × IsTrue (q x))
-        → Contains (y ∷ ys) x × IsTrue (q x)
-    by true is at go = elim (element_cases y x (filter q ys) at) as (λ _. Contains (y ∷ ys) x × IsTrue (q x)) [
-      | inl same ↦ (subst (λ z. Contains (y ∷ ys) z) same (here y ys), subst (λ z. IsTrue (q z)) same is)
-      | inr c ↦ let rest = go c in (there y x ys rest.0, rest.1)
-    ]
-    by false is at go = let rest = go at in (there y x ys rest.0, rest.1)
+kept q xs x h = (
+  All-contains (Contains xs) (filter q xs) x (All-filter q (Contains xs) xs (All-contains_itself xs)) h,
+  All-contains (λ y. q y ≡ true) (filter q xs) x (filter_passes q xs) h,
+)
 
 keeps : {A : Type 0} (q : A → Bool) (xs : List A) (x : A) → Contains xs x → IsTrue (q x) → Contains (filter q xs) x
 keeps q [] x h p = absurd (no_element x h)

@@ -1,46 +1,44 @@
 -- An add is the type that it leads to, and a set is an add and a write.
 use Rattle.std.proofs.Common.{◌≡◌, Bool, true, false, cond, not, ◌&&◌, List, [], map, Option, Some, None, option_map, unwrap_or, refl, sym, ap, ◌∙◌, subst}
-use Rattle.std.proofs.Common.{is_some, true≢false, IsTrue, MatchOption, MatchBool, Result, Ok, Err, OnOk}
+use Rattle.std.proofs.Common.{is_some, true≢false, IsTrue, MatchOption, MatchBool, Result, Ok, Err}
 use Rattle.std.specs.List.{list_any}
 use Rattle.std.specs.Option.{option_or}
-use Rattle.std.proofs.lemmas.Option.{same_Some, none-some}
 use Rattle.std.specs.FinMap.Entries.{find, where_key}
 use Rattle.eco_ids.specs.declared.entity.Entity.{Entity}
 use Rattle.eco_ids.specs.declared.id.Id.{Id}
 use Rattle.eco_ids.specs.declared.id.Id.TheVariants.{One, Two}
 use Rattle.eco_ids.specs.declared.refusal.Refusal.{Refusal}
-use Rattle.eco_ids.specs.declared.refusal.Refusal.TheVariants.{DeadId}
+use Rattle.eco_ids.specs.declared.refusal.Refusal.TheVariants.{DeadId, OutOfMemory}
 use Rattle.eco_ids.specs.declared.value.Value.{Value}
 use Rattle.eco_ids.specs.Builtin.{is_builtin}
 use Rattle.eco_ids.specs.Losses.{without, nobody}
 use Rattle.eco_ids.specs.Mirrors.{goes_too, mirror_of}
 use Rattle.eco_ids.specs.Laws.{Keeps, AddsExactly, AddsOnce}
 use Rattle.eco_ids.specs.Lawful.{IsLawful}
-use Rattle.eco_ids.specs.Order.{id_cmp, has_item, with_item, without_item}
+use Rattle.eco_ids.specs.Order.{id_cmp, has_item}
 use Rattle.eco_ids.specs.Outcome.{Meets, Answers, Refuses, is_out_of_memory}
 use Rattle.eco_ids.specs.Step as step
 use Rattle.eco_ids.specs.Step.{changed, grown, with_value, with_closure, is_replaced, is_pair_of, IsClosure, Judges, Loses, Extends, Adds, unfit, unchanged}
 use Rattle.eco_ids.specs.Step.{Sets, unfit_set, unfit_actor, is_reserved, with_mirror}
 use Rattle.eco_ids.specs.World.{WorldState, Record, zeros, has, names_living, is_exclusive, record_of, with_record, is_alive}
-use Rattle.eco_ids.proofs.Keeps.{some_of}
 use Rattle.eco_ids.proofs.Records.{changed_is, changed_unchanged}
 use Rattle.eco_ids.proofs.Closures.{zeros_have}
 use Rattle.eco_ids.proofs.Exact.{keys_find}
 use Rattle.eco_ids.proofs.Grown.{grown_at}
 use Rattle.eco_ids.proofs.Steps.{has_itself}
 use Rattle.eco_ids.proofs.Ascending.{second}
-use Rattle.eco_ids.proofs.Facts.{not_true}
+use Rattle.eco_ids.proofs.Facts.{not_ok, not_true}
 use Rattle.eco_store.specs.Store.{with_type}
 use Rattle.eco_traits.specs.declared.target.Target.{Target}
-use Rattle.eco_traits.specs.declared.target.Target.TheVariants.{Instead, With}
-use Rattle.eco_traits.specs.Target.{ExtendsTo, FindsTarget, FindsType, IsOwnType, IsTypeAfter, AddLeadsTo, type_meant, type_of_entity, type_of_record}
+use Rattle.eco_traits.specs.Target.{ExtendsTo, FindsTarget, FindsType, IsOwnType, IsTypeAfter, type_meant, type_of_entity, type_of_record}
 use Rattle.eco_tables.specs.Column.{value_in}
 use Rattle.eco_world.specs.Actor.{MaySet}
 use Rattle.eco_world.specs.Types.{type_of}
 use Rattle.eco_world.proofs.Changes.{held_at, sorted_at}
 use Rattle.eco_world.specs.Losses.{IsAlone}
 use Rattle.eco_world.proofs.Held.{retyped_is}
-use Rattle.eco_world.proofs.Mirroring.{alone_typed}
+use Rattle.eco_world.proofs.Mirroring.{alone_typed, left_value}
+use Rattle.eco_world.proofs.Steps.{meets_as}
 
 -- ---- a closure more
 
@@ -50,14 +48,6 @@ replaced_absent w s (Two r t) h =
     not_true (has_item id_cmp s (Two r t))
     (second (list_any (is_pair_of r) s) (not (has_item id_cmp s (Two r t)))
     (second (is_exclusive w r) (list_any (is_pair_of r) s && not (has_item id_cmp s (Two r t))) h))
-
-left_value : (old : Option Value) (replaced there : Bool) (v : Value) → (replaced ≡ true → there ≡ false) →
-    option_or (cond (not replaced) old None) (cond there (Some zeros) None) ≡ Some v → unwrap_or old zeros ≡ v
-left_value (Some u) false there v absent e = same_Some u v e
-left_value None false true v absent e = same_Some zeros v e
-left_value None false false v absent e = absurd (none-some v e)
-left_value old true true v absent e = absurd (true≢false (absent refl))
-left_value old true false v absent e = absurd (none-some v e)
 
 -- an add that is done: that it keeps the world lawful, and that the entity's new ids and the mirror say it all
 pub record IsExtended (w : WorldState) (e : Entity) (i : Id) (s : List Id) (d : Record) : Type 0 where
@@ -70,10 +60,13 @@ module _ (w : WorldState) (e : Entity) (i : Id) (alive : is_alive w e ≡ true) 
 
   module _ (absent : has w e i ≡ false) where
     -- an add is the extension of what the entity has
+    pub adds_are : (r : Result (Unit {0}) Refusal) (new : WorldState) → Adds w e i r new ≡ Extends w e i unchanged r new
+    adds_are r new =
+        ap (λ o. MatchOption o (MatchBool (has w e i) (Answers tt w r new) (Extends w e i unchanged r new)) (λ why. Refuses why w r new)) fit
+        ∙ ap (λ b. MatchBool b (Answers tt w r new) (Extends w e i unchanged r new)) absent
+
     pub adds_by : (r : Result (Unit {0}) Refusal) (new : WorldState) → Extends w e i unchanged r new → Adds w e i r new
-    adds_by r new x =
-        subst (λ o. MatchOption o (MatchBool (has w e i) (Answers tt w r new) (Extends w e i unchanged r new)) (λ why. Refuses why w r new)) (sym fit)
-        (subst (λ b. MatchBool b (Answers tt w r new) (Extends w e i unchanged r new)) (sym absent) x)
+    adds_by r new = subst (λ X. X) (sym (adds_are r new))
 
     module _ (s : List Id) (d : Record) (at : record_of w e ≡ Some d) (lawful : IsLawful w) (keeps : Keeps (λ v. Adds v e i)) (exactly : AddsExactly)
         (closure : IsClosure w i s) (judges : Judges w e s (grown w e i s) None) where
@@ -119,12 +112,6 @@ record IsFound (w : WorldState) (e : Entity) (i : Id) (ids : List Id) : Type 0 w
 same_ok : (x y : List Id) → (let r : Result (List Id) Refusal = Ok x in r ≡ Ok y) → x ≡ y
 same_ok x y h = cc
 
-not_refused : (x : List Id) (why : Refusal) → Ok x ≡ Err why → ⊥
-not_refused x why h = cc
-
-is_done : (why : Refusal) → (let r : Result (Unit {0}) Refusal = Ok tt in r ≡ Err why) → ⊥
-is_done why h = cc
-
 found : (w : WorldState) (e : Entity) (i : Id) (ids : List Id) → names_living w i ≡ true → has w e i ≡ false → FindsType w e i (Ok ids) → IsFound w e i ids
 found w e i ids living absent finds = by_verdict extends.0 extends.1 extends.2 extends.3 extends.4
   where
@@ -137,29 +124,15 @@ found w e i ids living absent finds = by_verdict extends.0 extends.1 extends.2 e
         (λ why. Ok ids ≡ Err why) →
         IsFound w e i ids
     by_verdict s closure None judges m = record { closure = s; is_closure = closure; judges = judges; of = m.0; at = m.1; ids_are = same_ok ids _ m.2 }
-    by_verdict s closure (Some why) judges m = absurd (not_refused ids why m)
+    by_verdict s closure (Some why) judges m = absurd (not_ok m)
 
 -- what stands against the type stands against the extension
-pub opposed : (w : WorldState) (e : Entity) (i : Id) (why : Refusal) → names_living w i ≡ true → has w e i ≡ false → FindsType w e i (Err why) →
-    Meets (Extends w e i unchanged) true w (Err why) w
-opposed w e i why living absent =
-    elim (is_out_of_memory {A = Unit {0}} (Err why)) as (λ b. MatchBool b (IsTrue (names_living w i)) (AddLeadsTo w e i (Err why)) →
-    MatchBool b (IsTrue true × (w ≡ w)) (Extends w e i unchanged (Err why) w)) [
-      | true ↦ λ m. (refl, refl)
-      | false ↦ λ m.
-          let x : ExtendsTo w e i (Err why) =
-          subst (λ b. MatchBool b (IsOwnType w e (Err why)) (ExtendsTo w e i (Err why))) absent
-          (subst (λ b. MatchBool b (MatchBool (has w e i) (IsOwnType w e (Err why)) (ExtendsTo w e i (Err why)))
-          (let r : Result (List Id) Refusal = Err why in r ≡ Err DeadId)) living m) in
-          by_verdict x.0 x.1 x.2 x.3 x.4
-    ]
+opposed : (w : WorldState) (e : Entity) (i : Id) (why : Refusal) → ExtendsTo w e i (Err why) → Extends w e i unchanged (Err why) w
+opposed w e i why x = by_verdict x.0 x.1 x.2 x.3 x.4
   where
-    not_found : (ids : List Id) → (let r : Result (List Id) Refusal = Err why in r ≡ Ok ids) → ⊥
-    not_found ids h = cc
-
     by_verdict : (s : List Id) → IsClosure w i s → (v : Option Refusal) → Judges w e s (grown w e i s) v →
         MatchOption v (IsTypeAfter w e s (Err why)) (λ y. (let r : Result (List Id) Refusal = Err why in r ≡ Err y)) → Extends w e i unchanged (Err why) w
-    by_verdict s closure None judges m = absurd (not_found _ m.2)
+    by_verdict s closure None judges m = absurd (not_ok (sym m.2))
     by_verdict s closure (Some y) judges m = (s, closure, Some y, judges, (let same : why ≡ y = cc in ap Err same, refl))
 
 -- what was found leads to a type only where each entity in the id lives
@@ -168,7 +141,7 @@ names_live w e i ids = by (names_living w i)
   where
     by : (b : Bool) → MatchBool b (MatchBool (has w e i) (IsOwnType w e (Ok ids)) (ExtendsTo w e i (Ok ids))) (Ok ids ≡ Err DeadId) → b ≡ true
     by true m = refl
-    by false m = absurd (not_refused ids DeadId m)
+    by false m = absurd (not_ok m)
 
 -- ---- the whole add
 
@@ -179,73 +152,24 @@ module _ (w : WorldState) (e : Entity) (i : Id) (alive : is_alive w e ≡ true) 
 
   module _ (living : names_living w i ≡ true) (absent : has w e i ≡ false) where
     -- where it isn't, an add is an extension
-    pub adds_extends : (r : Result (Unit {0}) Refusal) (new : WorldState) → Meets (Extends w e i unchanged) true w r new →
-        Meets (Adds w e i) (step.may_add w e i) w r new
-    adds_extends r new =
-        elim (is_out_of_memory r) as (λ b. MatchBool b (IsTrue true × (new ≡ w)) (Extends w e i unchanged r new) →
-        MatchBool b (IsTrue (step.may_add w e i) × (new ≡ w)) (Adds w e i r new)) [
-          | true ↦ λ m. (ap (λ o. not (is_some o) && not (has w e i)) (fit w e i alive free living) ∙ ap not absent, m.1)
-          | false ↦ λ x. adds_by w e i alive free living absent r new x
-        ]
-
     pub extends_adds : (r : Result (Unit {0}) Refusal) (new : WorldState) → Meets (Adds w e i) (step.may_add w e i) w r new →
         Meets (Extends w e i unchanged) true w r new
-    extends_adds r new =
-        elim (is_out_of_memory r) as (λ b. MatchBool b (IsTrue (step.may_add w e i) × (new ≡ w)) (Adds w e i r new) →
-        MatchBool b (IsTrue true × (new ≡ w)) (Extends w e i unchanged r new)) [
-          | true ↦ λ m. (refl, m.1)
-          | false ↦ λ x. extends_by r new x
-        ]
-      where
-        extends_by : (r : Result (Unit {0}) Refusal) (new : WorldState) → Adds w e i r new → Extends w e i unchanged r new
-        extends_by r new x =
-            subst (λ b. MatchBool b (Answers tt w r new) (Extends w e i unchanged r new)) absent
-            (subst (λ o. MatchOption o (MatchBool (has w e i) (Answers tt w r new) (Extends w e i unchanged r new)) (λ why. Refuses why w r new))
-            (fit w e i alive free living) x)
+    extends_adds r new = meets_as (Adds w e i) (Extends w e i unchanged) (step.may_add w e i) true w new w new r (λ _ same. (refl, same))
+        (subst (λ X. X) (adds_are w e i alive free living absent r new))
 
   -- what stands against the type stands against the add
+  opposed_by : (why : Refusal) (b : Bool) → names_living w i ≡ b → (h : Bool) → has w e i ≡ h →
+      MatchBool b (MatchBool h (IsOwnType w e (Err why)) (ExtendsTo w e i (Err why))) (let r : Result (List Id) Refusal = Err why in r ≡ Err DeadId) →
+      Adds w e i (Err why) w
+  opposed_by why true living true there m = absurd (not_ok (sym m.2))
+  opposed_by why true living false absent m = adds_by w e i alive free living absent (Err why) w (opposed w e i why m)
+  opposed_by why false lies h is m = rw (alive, free, lies) (let same : why ≡ DeadId = cc in ap Err same, refl)
+
   pub opposed_add : (why : Refusal) → FindsType w e i (Err why) → (IsTrue (is_out_of_memory {A = Unit {0}} (Err why)) → has w e i ≡ false) →
       Meets (Adds w e i) (step.may_add w e i) w (Err why) w
-  opposed_add why finds memory = by_living (names_living w i) refl
-    where
-      one : (y : Refusal) → (let r : Result (List Id) Refusal = Err y in r ≡ Err DeadId) → y ≡ DeadId
-      one y h = cc
-
-      dead : names_living w i ≡ false → Meets (Adds w e i) (step.may_add w e i) w (Err why) w
-      dead lies =
-          (elim (is_out_of_memory {A = Unit {0}} (Err why)) as (λ b. MatchBool b (IsTrue (names_living w i)) (AddLeadsTo w e i (Err why)) →
-          MatchBool b (IsTrue (step.may_add w e i) × (w ≡ w)) (Adds w e i (Err why) w)) [
-            | true ↦ λ m. absurd (true≢false (sym m ∙ lies))
-            | false ↦ λ m.
-                let is : (let r : Result (List Id) Refusal = Err why in r ≡ Err DeadId) =
-                subst (λ b. MatchBool b (MatchBool (has w e i) (IsOwnType w e (Err why)) (ExtendsTo w e i (Err why)))
-                (let r : Result (List Id) Refusal = Err why in r ≡ Err DeadId)) lies m in
-                rw (alive, free, lies) (ap Err (one why is), refl)
-          ]) finds
-
-      there : names_living w i ≡ true → has w e i ≡ true → Meets (Adds w e i) (step.may_add w e i) w (Err why) w
-      there living has_it =
-          (elim (is_out_of_memory {A = Unit {0}} (Err why)) as (λ b. (IsTrue b → has w e i ≡ false) →
-          MatchBool b (IsTrue (names_living w i)) (AddLeadsTo w e i (Err why)) → MatchBool b (IsTrue (step.may_add w e i) × (w ≡ w)) (Adds w e i (Err why) w)) [
-            | true ↦ λ lacks m. absurd (true≢false (sym has_it ∙ lacks refl))
-            | false ↦ λ lacks m.
-                let own : IsOwnType w e (Err why) =
-                subst (λ b. MatchBool b (IsOwnType w e (Err why)) (ExtendsTo w e i (Err why))) has_it
-                (subst (λ b. MatchBool b (MatchBool (has w e i) (IsOwnType w e (Err why)) (ExtendsTo w e i (Err why)))
-                (let r : Result (List Id) Refusal = Err why in r ≡ Err DeadId)) living m) in
-                absurd (not_found _ own.2)
-          ]) memory finds
-        where
-          not_found : (ids : List Id) → (let r : Result (List Id) Refusal = Err why in r ≡ Ok ids) → ⊥
-          not_found ids h = cc
-
-      by_has : names_living w i ≡ true → (b : Bool) → has w e i ≡ b → Meets (Adds w e i) (step.may_add w e i) w (Err why) w
-      by_has living true h = there living h
-      by_has living false h = adds_extends living h (Err why) w (opposed w e i why living h finds)
-
-      by_living : (b : Bool) → names_living w i ≡ b → Meets (Adds w e i) (step.may_add w e i) w (Err why) w
-      by_living true h = by_has h (has w e i) refl
-      by_living false h = dead h
+  opposed_add OutOfMemory finds memory =
+      (ap (λ o. not (is_some o) && not (has w e i)) (fit w e i alive free finds) ∙ ap not (memory refl), refl)
+  opposed_add why finds memory = opposed_by why (names_living w i) refl (has w e i) refl finds
 
 -- the world once the entity has these ids, and the mirror of i stands where it belongs
 abbrev pub typed_both : WorldState → Entity → Id → List Id → WorldState
@@ -256,41 +180,6 @@ pub record IsGrown (w : WorldState) (e : Entity) (i : Id) (new : WorldState) : T
   pub lawful : IsLawful new
   pub adds : Adds w e i (Ok tt) new
 
-pub found_both : (w : WorldState) (e : Entity) (i : Id) (ids : List Id) → is_alive w e ≡ true → is_reserved w e i ≡ false → IsLawful w →
-    Keeps (λ v. Adds v e i) → AddsExactly → FindsType w e i (Ok ids) → has w e i ≡ false → IsGrown w e i (typed_both w e i ids)
-found_both w e i ids alive free lawful keeps exactly finds lacks =
-    let living = names_live w e i ids finds in
-    let f = found w e i ids living lacks finds in
-    let x = extended_typed w e i alive free living lacks f.closure f.of f.at lawful keeps exactly f.is_closure f.judges in
-    let same : typed_both w e i ids ≡ grown w e i f.closure = ap (typed_both w e i) f.ids_are ∙ x.typed in
-    record {
-      lawful = subst IsLawful (sym same) x.lawful;
-      adds = adds_by w e i alive free living lacks (Ok tt) (typed_both w e i ids)
-          (f.closure, f.is_closure, None, f.judges, (refl, same ∙ sym (changed_unchanged (grown w e i f.closure) e)));
-    }
-
--- where nobody else has a mirror of it, the entity's ids are all
-pub found_other : (w : WorldState) (e : Entity) (i : Id) (ids : List Id) → is_alive w e ≡ true → is_reserved w e i ≡ false → IsLawful w →
-    Keeps (λ v. Adds v e i) → AddsExactly → FindsType w e i (Ok ids) → has w e i ≡ false → IsAlone w e i →
-    IsGrown w e i (changed w e (with_type ids))
-found_other w e i ids alive free lawful keeps exactly finds lacks alone =
-    let living = names_live w e i ids finds in
-    let f = found w e i ids living lacks finds in
-    let own : IsTrue (has_item id_cmp ids i) = subst (λ js. IsTrue (has_item id_cmp js i)) (sym f.ids_are)
-    (sym (keys_find (with_closure w f.closure f.of).held i)
-    ∙ zeros_have f.closure (where_key id_cmp (λ j. not (is_replaced w f.closure j)) (f.of).held) i (has_itself w i f.closure f.is_closure)) in
-    subst (IsGrown w e i) (alone_typed w e i ids f.of f.at alone own) (found_both w e i ids alive free lawful keeps exactly finds lacks)
-
-pub found_with : (w : WorldState) (e : Entity) (i : Id) → is_alive w e ≡ true → is_reserved w e i ≡ false → IsLawful w →
-    Keeps (λ v. Adds v e i) → AddsExactly → FindsTarget w e i (Ok With) → has w e i ≡ false → IsAlone w e i →
-    IsGrown w e i (changed w e (with_type (with_item id_cmp (unwrap_or (type_of_entity w e) []) i)))
-found_with w e i = found_other w e i (with_item id_cmp (unwrap_or (type_of_entity w e) []) i)
-
-pub found_instead : (w : WorldState) (e : Entity) (i old : Id) → is_alive w e ≡ true → is_reserved w e i ≡ false → IsLawful w →
-    Keeps (λ v. Adds v e i) → AddsExactly → FindsTarget w e i (Ok (Instead old)) → has w e i ≡ false → IsAlone w e i →
-    IsGrown w e i (changed w e (with_type (with_item id_cmp (without_item id_cmp (unwrap_or (type_of_entity w e) []) old) i)))
-found_instead w e i old = found_other w e i (with_item id_cmp (without_item id_cmp (unwrap_or (type_of_entity w e) []) old) i)
-
 own_type : (w : WorldState) (e : Entity) → unwrap_or (type_of_entity w e) [] ≡ type_of w e
 own_type w e = by (record_of w e)
   where
@@ -298,14 +187,39 @@ own_type w e = by (record_of w e)
     by None = refl
     by (Some d) = refl
 
--- where somebody has a mirror of it
-pub found_mirrored : (w : WorldState) (e : Entity) (i : Id) (t : Target) (m : Entity × Id) → is_alive w e ≡ true → is_reserved w e i ≡ false → IsLawful w →
-    Keeps (λ v. Adds v e i) → AddsExactly → FindsTarget w e i (Ok t) → has w e i ≡ false → mirror_of w e i ≡ Some m →
-    IsGrown w e i (with_mirror (changed w e (with_type (type_meant (type_of w e) i t))) (Some m))
-found_mirrored w e i t m alive free lawful keeps exactly finds lacks mirror =
-    subst (λ o. IsGrown w e i (with_mirror (changed w e (with_type (type_meant (type_of w e) i t))) o)) mirror
-    (found_both w e i (type_meant (type_of w e) i t) alive free lawful keeps exactly
-    (subst (λ own. FindsType w e i (Ok (type_meant own i t))) (own_type w e) finds) lacks)
+module _ (w : WorldState) (e : Entity) (i : Id) (alive : is_alive w e ≡ true) (free : is_reserved w e i ≡ false) (lawful : IsLawful w)
+    (keeps : Keeps (λ v. Adds v e i)) (exactly : AddsExactly) (lacks : has w e i ≡ false) where
+  module _ (ids : List Id) (finds : FindsType w e i (Ok ids)) where
+    living : names_living w i ≡ true
+    living = names_live w e i ids finds
+
+    of : IsFound w e i ids
+    of = found w e i ids living lacks finds
+
+    found_both : IsGrown w e i (typed_both w e i ids)
+    found_both =
+        let x = extended_typed w e i alive free living lacks of.closure of.of of.at lawful keeps exactly of.is_closure of.judges in
+        let same : typed_both w e i ids ≡ grown w e i of.closure = ap (typed_both w e i) of.ids_are ∙ x.typed in
+        record {
+          lawful = subst IsLawful (sym same) x.lawful;
+          adds = adds_by w e i alive free living lacks (Ok tt) (typed_both w e i ids)
+              (of.closure, of.is_closure, None, of.judges, (refl, same ∙ sym (changed_unchanged (grown w e i of.closure) e)));
+        }
+
+    -- where nobody else has a mirror of it, the entity's ids are all
+    pub found_other : IsAlone w e i → IsGrown w e i (changed w e (with_type ids))
+    found_other alone =
+        let own : IsTrue (has_item id_cmp ids i) = subst (λ js. IsTrue (has_item id_cmp js i)) (sym of.ids_are)
+        (sym (keys_find (with_closure w of.closure of.of).held i)
+        ∙ zeros_have of.closure (where_key id_cmp (λ j. not (is_replaced w of.closure j)) (of.of).held) i (has_itself w i of.closure of.is_closure)) in
+        subst (IsGrown w e i) (alone_typed w e i ids of.of of.at alone own) found_both
+
+  -- where somebody has a mirror of it
+  pub found_mirrored : (t : Target) (m : Entity × Id) → FindsTarget w e i (Ok t) → mirror_of w e i ≡ Some m →
+      IsGrown w e i (with_mirror (changed w e (with_type (type_meant (type_of w e) i t))) (Some m))
+  found_mirrored t m finds mirror =
+      subst (λ o. IsGrown w e i (with_mirror (changed w e (with_type (type_meant (type_of w e) i t))) o)) mirror
+      (found_both (type_meant (type_of w e) i t) (subst (λ own. FindsType w e i (Ok (type_meant own i t))) (own_type w e) finds))
 
 -- ---- a set
 
@@ -314,18 +228,27 @@ pub extended : (w : WorldState) (e : Entity) (i : Id) (v : Value) → MaySet w e
     Meets (Adds w e i) (step.may_add w e i) w r new → Meets (Extends w e i unchanged) true w r new
 extended w e i v may_set = extends_adds w e i may_set.alive may_set.free may_set.living
 
+-- the world between an add and the write that makes it a set
+pub record IsSetAfter (w : WorldState) (e : Entity) (i : Id) (v : Value) (mid : WorldState) : Type 0 where
+  pub there : has mid e i ≡ true
+  pub alive : is_alive mid e ≡ true
+  pub lawful : IsLawful (changed mid e (with_value i v))
+  pub sets : Sets w e i v (Ok tt) (changed mid e (with_value i v))
+
 module _ (w : WorldState) (e : Entity) (i : Id) (v : Value) (may_set : MaySet w e i v) (lawful : IsLawful w) (keeps : Keeps (λ x. Sets x e i v)) where
   fit_set : unfit_set w e i v ≡ None
   fit_set = rw (may_set.alive, may_set.free, may_set.living, may_set.data_id, may_set.narrow) refl
 
   -- where the id is there
   sets_there : has w e i ≡ true → Sets w e i v (Ok tt) (changed w e (with_value i v))
-  sets_there there =
-      subst (λ o. MatchOption o
-      (MatchBool (has w e i) (Answers tt (changed w e (with_value i v)) (Ok tt) (changed w e (with_value i v)))
-      (Extends w e i (with_value i v) (Ok tt) (changed w e (with_value i v)))) (λ why. Refuses why w (Ok tt) (changed w e (with_value i v)))) (sym fit_set)
-      (subst (λ b. MatchBool b (Answers tt (changed w e (with_value i v)) (Ok tt) (changed w e (with_value i v)))
-      (Extends w e i (with_value i v) (Ok tt) (changed w e (with_value i v)))) (sym there) (refl, refl))
+  sets_there there = rw (may_set.alive, may_set.free, may_set.living, may_set.data_id, may_set.narrow, there) (refl, refl)
+
+  -- where it isn't, a set is an extension
+  sets_by : has w e i ≡ false → (r : Result (Unit {0}) Refusal) (new : WorldState) → Extends w e i (with_value i v) r new → Sets w e i v r new
+  sets_by absent r new x =
+      subst (λ o. MatchOption o (MatchBool (has w e i) (Answers tt (changed w e (with_value i v)) r new) (Extends w e i (with_value i v) r new))
+      (λ why. Refuses why w r new)) (sym fit_set)
+      (subst (λ b. MatchBool b (Answers tt (changed w e (with_value i v)) r new) (Extends w e i (with_value i v) r new)) (sym absent) x)
 
   pub lawful_there : has w e i ≡ true → IsLawful (changed w e (with_value i v))
   lawful_there there = keeps w (Ok tt) (changed w e (with_value i v)) lawful (sets_there there)
@@ -333,58 +256,41 @@ module _ (w : WorldState) (e : Entity) (i : Id) (v : Value) (may_set : MaySet w 
   -- what stands against the closure stands against the set, and where memory is wanting neither changes anything
   pub refused_after : has w e i ≡ false → (why : Refusal) (new : WorldState) → Meets (Extends w e i unchanged) true w (Err why) new
       → Meets (Sets w e i v) (step.may_set w e i v) w (Err why) new
-  refused_after absent why new =
-      elim (is_out_of_memory {A = Unit {0}} (Err why)) as (λ b.
-      MatchBool b (IsTrue true × (new ≡ w)) (Extends w e i unchanged (Err why) new)
-      → MatchBool b (IsTrue (step.may_set w e i v) × (new ≡ w)) (Sets w e i v (Err why) new)) [
-        | true ↦ λ m. (ap (λ o. not (is_some o) && not (has w e i)) fit_set ∙ ap not absent, m.1)
-        | false ↦ λ x.
-            subst (λ o. MatchOption o
-            (MatchBool (has w e i) (Answers tt (changed w e (with_value i v)) (Err why) new) (Extends w e i (with_value i v) (Err why) new))
-            (λ y. Refuses {A = Unit {0}} y w (Err why) new)) (sym fit_set)
-            (subst (λ b. MatchBool b (Answers tt (changed w e (with_value i v)) (Err why) new) (Extends w e i (with_value i v) (Err why) new)) (sym absent)
-            (refused x.0 x.1 x.2 x.3 x.4))
-      ]
+  refused_after absent why new = meets_as (Extends w e i unchanged) (Sets w e i v) true (step.may_set w e i v) w new w new (Err why)
+      (λ _ same. (ap (λ o. not (is_some o) && not (has w e i)) fit_set ∙ ap not absent, same))
+      (λ x. sets_by absent (Err why) new (refused x.0 x.1 x.2 x.3 x.4))
     where
       refused : (s : List Id) → IsClosure w i s → (verdict : Option Refusal) → Judges w e s (grown w e i s) verdict →
           MatchOption verdict (Answers {A = Unit {0}} tt (changed (grown w e i s) e unchanged) (Err why) new) (λ y. Refuses {A = Unit {0}} y w (Err why) new) →
           Extends w e i (with_value i v) (Err why) new
-      refused s closure None judges m = absurd (is_done why (sym m.0))
+      refused s closure None judges m = absurd (not_ok (sym m.0))
       refused s closure (Some y) judges m = (s, closure, Some y, judges, m)
 
   -- after the id was added
   module _ (absent : has w e i ≡ false) (once : AddsOnce) (mid : WorldState) (extends : Extends w e i unchanged (Ok tt) mid) where
-    pub there_after : has mid e i ≡ true
-    there_after = (once w e i mid (adds_by w e i may_set.alive may_set.free may_set.living absent (Ok tt) mid extends)).0
+    there : has mid e i ≡ true
+    there = (once w e i mid (adds_by w e i may_set.alive may_set.free may_set.living absent (Ok tt) mid extends)).0
 
-    pub alive_after : is_alive mid e ≡ true
-    alive_after = lives (record_of mid e) there_after
-      where
-        lives : (o : Option Record) → is_some (find id_cmp i (unwrap_or (option_map (λ (r : Record). r.held) o) [])) ≡ true → is_some o ≡ true
-        lives None h = absurd (true≢false (sym h))
-        lives (Some d) h = refl
-
-    here : (d : Record) × (record_of w e ≡ Some d)
-    here = some_of (record_of w e) may_set.alive
+    lives : (o : Option Record) → is_some (find id_cmp i (unwrap_or (option_map (λ (r : Record). r.held) o) [])) ≡ true → is_some o ≡ true
+    lives None h = absurd (true≢false (sym h))
+    lives (Some d) h = refl
 
     both_done : (s : List Id) → IsClosure w i s → (verdict : Option Refusal) → Judges w e s (grown w e i s) verdict →
         MatchOption verdict (Answers {A = Unit {0}} tt (changed (grown w e i s) e unchanged) (Ok tt) mid) (λ why. Refuses {A = Unit {0}} why w (Ok tt) mid) →
         Extends w e i (with_value i v) (Ok tt) (changed mid e (with_value i v))
     both_done s closure None judges m = (s, closure, None, judges, (refl, ap (λ x. changed x e (with_value i v)) (m.1 ∙ changed_unchanged (grown w e i s) e)))
-    both_done s closure (Some why) judges m = absurd (is_done why m.0)
+    both_done s closure (Some why) judges m = absurd (not_ok m.0)
 
-    pub sets_after : Sets w e i v (Ok tt) (changed mid e (with_value i v))
-    sets_after =
-        subst (λ o. MatchOption o
-        (MatchBool (has w e i) (Answers tt (changed w e (with_value i v)) (Ok tt) (changed mid e (with_value i v)))
-        (Extends w e i (with_value i v) (Ok tt) (changed mid e (with_value i v)))) (λ why. Refuses why w (Ok tt) (changed mid e (with_value i v))))
-        (sym fit_set)
-        (subst (λ b. MatchBool b (Answers tt (changed w e (with_value i v)) (Ok tt) (changed mid e (with_value i v)))
-        (Extends w e i (with_value i v) (Ok tt) (changed mid e (with_value i v)))) (sym absent)
-        (both_done extends.0 extends.1 extends.2 extends.3 extends.4))
+    sets_after : Sets w e i v (Ok tt) (changed mid e (with_value i v))
+    sets_after = sets_by absent (Ok tt) (changed mid e (with_value i v)) (both_done extends.0 extends.1 extends.2 extends.3 extends.4)
 
-    pub lawful_after : IsLawful (changed mid e (with_value i v))
-    lawful_after = keeps w (Ok tt) (changed mid e (with_value i v)) lawful sets_after
+    pub set_after : IsSetAfter w e i v mid
+    set_after = record {
+      there = there;
+      alive = lives (record_of mid e) there;
+      lawful = keeps w (Ok tt) (changed mid e (with_value i v)) lawful sets_after;
+      sets = sets_after;
+    }
 
 -- ---- a remove, and a clear
 
@@ -397,8 +303,3 @@ module _ (w : WorldState) (e : Entity) (alive : is_alive w e ≡ true) (ordinary
     where
       fit_actor : unfit_actor w e ≡ None
       fit_actor = rw (alive, ordinary) refl
-
--- a call that leads to a state leads to what that state is
-pub same_ok_state : {A B S : Type 0} (r : Result A B) (new x y : S) → x ≡ y → OnOk r (new ≡ x) → OnOk r (new ≡ y)
-same_ok_state (Ok a) new x y same h = h ∙ same
-same_ok_state (Err b) new x y same h = h

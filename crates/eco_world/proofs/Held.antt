@@ -1,6 +1,6 @@
 -- Ids with values, in the order of the ids.
-use Rattle.std.proofs.Common.{◌≡◌, Bool, true, false, cond, not, ◌&&◌, T, List, [], ◌∷◌, map, Option, Some, None, option_map, unwrap_or, refl, sym, ap, ◌∙◌}
-use Rattle.std.proofs.Common.{subst, is_some, is_eq, is_lt, Ordering, Less, Equal, Greater, true≢false}
+use Rattle.std.proofs.Common.{arith, ◌≡◌, Bool, true, false, cond, not, ◌&&◌, T, List, [], ◌∷◌, map, Option, Some, None, option_map, unwrap_or, refl, sym, ap}
+use Rattle.std.proofs.Common.{◌∙◌, subst, is_some, is_eq, is_lt, Ordering, Less, Equal, Greater, true≢false}
 use Rattle.std.proofs.lemmas.Option.{same_Some, none-some}
 use Rattle.std.specs.FinMap.Entries.{find, put, by_order, where_key, is_sorted, below_all, is_sorted-where_key, find-where_key}
 use Rattle.eco_ids.specs.declared.id.Id.{Id}
@@ -24,13 +24,10 @@ abbrev pub keys : Held → List Id
 keys = map (λ p. p.0)
 
 less : (o : Ordering) → T (is_lt o) → o ≡ Less
-less Less p = refl
-less Equal p = absurd p
-less Greater p = absurd p
+less o p = grind arith
 
 both : (a b : Bool) → T a → T b → T (a && b)
-both true b p q = q
-both false b p q = p
+both a b p q = grind arith
 
 below_less : (i j : Id) (held : Held) → id_cmp i j ≡ Less → T (below_all id_cmp j held) → T (below_all id_cmp i held)
 below_less i j [] l below = tt

@@ -1,5 +1,5 @@
 -- Who has an id, as a store finds them by the pattern of that id.
-use Rattle.std.proofs.Common.{if◌then◌else◌, ◌≡◌, true, false, cond, ◌||◌, List, [], ◌∷◌, map, filter, Some, refl, ap, ◌∙◌, is_some}
+use Rattle.std.proofs.Common.{◌≡◌, true, false, cond, ◌||◌, List, [], ◌∷◌, map, filter, Some, refl, ap, ◌∙◌, is_some}
 use Rattle.std.specs.List.{list_any}
 use Rattle.std.specs.FinMap.Entries.{find}
 use Rattle.eco_ids.specs.declared.entity.Entity.{Entity}
@@ -37,8 +37,7 @@ exactly_held i (h ∷ held) =
 
 found : (i : Id) (ps : List (Entity × Record)) → filter (λ (p : Entity × Record). has_match (exactly i) p.1) ps
     ≡ filter (λ (p : Entity × Record). is_some (find id_cmp i p.1.held)) ps
-found i [] = refl
-found i (p ∷ ps) = λ t. if exactly_held i p.1.held t then p ∷ found i ps t else found i ps t
+found i ps = λ t. filter (λ (p : Entity × Record). exactly_held i p.1.held t) ps
 
 -- whom the store finds by the id's pattern has the id in the world
 pub found_holders : (w : WorldState) (i : Id) → store.entities_with (entities w) (exactly i) ≡ holders w i

@@ -1,5 +1,5 @@
 -- Lists of tables that ascend by type, and a whole layout around those of some types.
-use Rattle.std.proofs.Common.{◌≡◌, ◌≢◌, ℕ, zero, suc, ◌<◌, Bool, ◌||◌, true, false, cond, List, [], ◌∷◌, map, filter, length, get_or, refl, sym, ap, ◌∙◌}
+use Rattle.std.proofs.Common.{◌≡◌, ◌≢◌, ℕ, zero, suc, ◌<◌, Bool, true, false, cond, List, [], ◌∷◌, map, filter, length, get_or, refl, sym, ap, ◌∙◌}
 use Rattle.std.proofs.Common.{subst, arith, suc-add, zero-le, le_of_suc-le-suc, IsTrue, IsSortedBy, Ordering, Less, Equal, Greater, is_eq, is_lt, true≢false}
 use Rattle.std.proofs.Common.{◌⊎◌, inl, inr, ◌↔◌, Contains}
 use Rattle.std.specs.Cmp.{IsTotalOrder, on_total, tied_itself}
@@ -8,6 +8,7 @@ use Rattle.std.specs.FinMap.Entries.{by_order}
 use Rattle.std.specs.List.{All, AllByRecursion, IsDistinct, list_all}
 use Rattle.std.specs.List.Sorted.{IsPermutation}
 use Rattle.std.specs.Ordering.{ordering_reverse, ordering_then, eq_by_cmp}
+use Rattle.std.proofs.lemmas.List.{get_or-map, length-map}
 use Rattle.std.proofs.lemmas.List.Elements.{Contains-get_or}
 use Rattle.std.proofs.lemmas.List.Sorted.{Contains-permutation, IsPermutation-map, IsPermutation-sym, ranks_by, sorted_far}
 use Rattle.std.proofs.lemmas.Map.Keys.{IsDistinct-IsPermutation, IsDistinct-head, IsDistinct-tail}
@@ -17,16 +18,13 @@ use Rattle.eco_ids.specs.Layout.{ListedTable, IsLayout, is_distinct}
 use Rattle.eco_ids.specs.Order.{has_item, id_cmp, is_ascending, with_item}
 use Rattle.eco_ids.specs.World.{WorldState, is_alive}
 use Rattle.eco_ids.proofs.Ascending.{ascending_with, both, first, second, with_present}
-use Rattle.eco_ids.proofs.Facts.{or_right}
+use Rattle.eco_ids.proofs.Facts.{or_left, or_right}
 use Rattle.eco_ids.proofs.IdOrder.{id_cmp_total, same_id}
 use Rattle.eco_world.specs.declared.table_rows.TableRows.{TableRows}
 use Rattle.eco_world.specs.Layouts.{IsByType, listed, listed_of}
 use Rattle.eco_world.specs.Types.{type_of}
 
 -- ---- elements of a list
-
-pub or_left : (a b : Bool) → IsTrue a → IsTrue (a || b)
-or_left a b h = ap (λ c. c || b) h
 
 pub there : {X : Type 0} (y x : X) (xs : List X) → Contains xs x → Contains (y ∷ xs) x
 there y x xs p = (suc p.0, omega (arith, p.1), p.2)
@@ -46,6 +44,17 @@ element_cases {X} y x xs p = by p.0 p.1 p.2
 
 pub all_of : {X : Type 0} (P : X → Type 0) (xs : List X) → ((x : X) → Contains xs x → P x) → All P xs
 all_of P xs each k d within = each (get_or xs k d) (Contains-get_or xs k d within)
+
+-- what is made of an element is made of one of the list, and the other way around
+pub mapped_there : {X Y : Type 0} (f : X → Y) (xs : List X) (x : X) → Contains xs x → Contains (map f xs) (f x)
+mapped_there f xs x p = (p.0, omega (arith, p.1, length-map xs f), get_or-map f xs p.0 x (f x) p.1 ∙ ap f p.2)
+
+pub mapped_from : {X Y : Type 0} (f : X → Y) (xs : List X) (y : Y) → Contains (map f xs) y → (x : X) × Contains xs x × (f x ≡ y)
+mapped_from f [] y p = absurd (no_element y p)
+mapped_from f (x ∷ xs) y p = elim (element_cases (f x) y (map f xs) p) as (λ _. (z : _) × Contains (x ∷ xs) z × (f z ≡ y)) [
+  | inl e ↦ (x, here x xs, e)
+  | inr c ↦ let later = mapped_from f xs y c in (later.0, there x later.0 xs later.1, later.2)
+]
 
 -- ---- the order of tables by type
 
@@ -84,12 +93,7 @@ type_ties a b same = ap (λ ids. is_eq (slice_cmp id_cmp a.ids ids)) (sym same) 
 -- ---- sorted tables of different types ascend
 
 below : (a b : ListedTable) → is_lt (by_type b a) ≡ false → same_type a b ≡ false → is_lt (by_type a b) ≡ true
-below a b not_less apart = by (by_type a b) (by_type_total.antisymm b a) apart
-  where
-    by : (r : Ordering) → by_type b a ≡ ordering_reverse r → is_eq r ≡ false → is_lt r ≡ true
-    by Less back e = refl
-    by Equal back e = absurd (true≢false e)
-    by Greater back e = absurd (true≢false (sym (ap is_lt back) ∙ not_less))
+below a b not_less apart = let back = by_type_total.antisymm b a in grind arith
 
 all_below : (a : TableRows) (ts : List TableRows) → ((k : ℕ) (d : TableRows) → k < length ts →
     is_lt (by_type (listed_of (get_or ts k d)) (listed_of a)) ≡ false)

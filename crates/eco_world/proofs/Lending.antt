@@ -1,9 +1,10 @@
 -- What listed tables lend are the values that their entities have in the world.
-use Rattle.std.proofs.Common.{◌≡◌, ℕ, suc, Bool, true, false, ◌&&◌, cond, is_some, IsSome, nat_lt, List, [], ◌∷◌, map, length, slice_get}
-use Rattle.std.proofs.Common.{Option, Some, None, option_map, unwrap_or, refl, sym, ap, ◌∙◌, subst, inl, inr, Contains}
+use Rattle.std.proofs.Common.{◌≡◌, ℕ, suc, true, ◌&&◌, is_some, IsSome, nat_lt, List, [], ◌∷◌, map, slice_get}
+use Rattle.std.proofs.Common.{Option, Some, None, option_map, unwrap_or, refl, sym, ap, ◌∙◌, subst, Contains}
 use Rattle.std.specs.List.{All}
 use Rattle.std.specs.List.Sorted.{IsPermutation}
 use Rattle.std.proofs.lemmas.Option.{get_or_from_slice_get}
+use Rattle.std.proofs.lemmas.List.Elements.{All-contains}
 use Rattle.std.proofs.lemmas.List.Sorted.{Contains-permutation, IsPermutation-sym}
 use Rattle.eco_ids.specs.Data.{arity}
 use Rattle.eco_ids.specs.Lawful.{IsLawful}
@@ -13,64 +14,36 @@ use Rattle.eco_ids.specs.World.{WorldState, Record, entities, held_by, record_of
 use Rattle.eco_ids.specs.declared.id.Id.{Id}
 use Rattle.eco_tables.specs.Column.{value_in}
 use Rattle.eco_tables.specs.Table.{TableState, TableRow, entities_of, width_in}
-use Rattle.eco_tables.specs.Tables.{table_in}
+use Rattle.eco_tables.specs.Tables.{no_table, table_in}
 use Rattle.eco_store.specs.Lent.{KeepData}
 use Rattle.eco_store.specs.Store.{IsShown, Stands}
 use Rattle.eco_world.specs.declared.table_rows.TableRows.{TableRows}
 use Rattle.eco_world.specs.Layouts.{IsWhole, LendsValues, column_in, lent, lent_at, lent_of}
 use Rattle.eco_world.proofs.Data.{data_lent}
-use Rattle.eco_world.proofs.Layouts.{all_of, element_cases, here, no_element, there}
+use Rattle.eco_world.proofs.Layouts.{all_of, mapped_from, mapped_there}
+use Rattle.eco_world.proofs.Tabled.{found_made, made_of}
 
 -- a table as a world lists and lends it
 abbrev Lent : Type 0
 Lent = ListedTable × TableState × WorldState
 
-module _ (w : WorldState) where
-  -- the tables that have rows, among these in their slots
-  abbrev pub lent_rows : List (Option TableState) → List (ListedTable × TableState × WorldState)
-  lent_rows [] = []
-  lent_rows (None ∷ slots) = lent_rows slots
-  lent_rows (Some t ∷ slots) = cond (nat_lt 0 (length t.rows)) (lent_of w t ∷ lent_rows slots) (lent_rows slots)
+-- the tables that have rows, among these in their slots
+abbrev pub lent_rows : WorldState → List (Option TableState) → List (ListedTable × TableState × WorldState)
+lent_rows w = made_of (lent_of w)
 
-  -- it stands in a slot
-  abbrev IsLent : List (Option TableState) → ListedTable × TableState × WorldState → Type 0
-  IsLent slots x = (n : ℕ) × (lent_at w slots n ≡ x)
+-- it stands in a slot
+abbrev IsLent : WorldState → List (Option TableState) → ListedTable × TableState × WorldState → Type 0
+IsLent w slots x = (n : ℕ) × (lent_at w slots n ≡ x)
 
-  -- ---- where a table stands
+-- ---- where a table stands
 
-  pub in_slots : (slots : List (Option TableState)) (ns : List ℕ) (x : ListedTable × TableState × WorldState) → Contains (map (lent_at w slots) ns) x
-      → IsLent slots x
-  in_slots slots [] x p = absurd (no_element x p)
-  in_slots slots (n ∷ ns) x p = elim (element_cases (lent_at w slots n) x (map (lent_at w slots) ns) p) as (λ _. IsLent slots x) [
-    | inl e ↦ (n, e)
-    | inr c ↦ in_slots slots ns x c
-  ]
+pub in_slots : (w : WorldState) (slots : List (Option TableState)) (ns : List ℕ) (x : ListedTable × TableState × WorldState)
+    → Contains (map (lent_at w slots) ns) x → IsLent w slots x
+in_slots w slots ns x p = let one = mapped_from (lent_at w slots) ns x p in (one.0, one.2)
 
-  pub with_rows_in_slots : (slots : List (Option TableState)) (x : ListedTable × TableState × WorldState) → Contains (lent_rows slots) x → IsLent slots x
-  with_rows_in_slots [] x p = absurd (no_element x p)
-  with_rows_in_slots (None ∷ slots) x p = let later = with_rows_in_slots slots x p in (suc later.0, later.1)
-  with_rows_in_slots (Some t ∷ slots) x p = by (nat_lt 0 (length t.rows)) (with_rows_in_slots slots x) p
-    where
-      after : IsLent slots x → IsLent (Some t ∷ slots) x
-      after later = (suc later.0, later.1)
-
-      by : (b : Bool) → (Contains (lent_rows slots) x → IsLent slots x)
-          → Contains (cond b (lent_of w t ∷ lent_rows slots) (lent_rows slots)) x → IsLent (Some t ∷ slots) x
-      by true rest q = elim (element_cases (lent_of w t) x (lent_rows slots) q) as (λ _. IsLent (Some t ∷ slots) x) [
-        | inl e ↦ (0, e)
-        | inr c ↦ after (rest c)
-      ]
-      by false rest q = after (rest q)
-
-each_of : (P : TableRows → Type 0) (ts : List TableRows) (t : TableRows) → All P ts → Contains ts t → P t
-each_of P ts t all p = subst P p.2 (all p.0 t p.1)
-
-listed_there : (ts : List TableRows) (t : TableRows) → Contains ts t → Contains (map lent ts) (lent t)
-listed_there [] t p = absurd (no_element t p)
-listed_there (u ∷ ts) t p = elim (element_cases u t ts p) as (λ _. Contains (map lent (u ∷ ts)) (lent t)) [
-  | inl e ↦ subst (λ x. Contains (map lent (u ∷ ts)) (lent x)) e (here (lent u) (map lent ts))
-  | inr c ↦ there (lent u) (lent t) (map lent ts) (listed_there ts t c)
-]
+pub with_rows_in_slots : (w : WorldState) (slots : List (Option TableState)) (x : ListedTable × TableState × WorldState)
+    → Contains (lent_rows w slots) x → IsLent w slots x
+with_rows_in_slots w slots x p = let one = found_made (lent_of w) slots x p in (one.0, ap (λ o. lent_of w (unwrap_or o no_table)) one.2 ∙ one.4)
 
 -- ---- what a row holds
 
@@ -108,4 +81,4 @@ module _ (w : WorldState) (slots : List (Option TableState)) (shown : IsShown (e
       all_of (LendsValues w) new
       (λ t p.
       let was = Contains-permutation new old t (IsPermutation-sym old new moved) p in
-      lends t (stand (lent t) (listed_there old t was)) (each_of IsWhole old t whole was))
+      lends t (stand (lent t) (mapped_there lent old t was)) (All-contains IsWhole old t whole was))

@@ -1,6 +1,6 @@
 -- What a call takes away, with mirrors, as what it takes away alone or as losses one after another.
-use Rattle.std.proofs.Common.{◌≡◌, Bool, true, false, cond, not, ◌||◌, List, [], ◌∷◌, ◌++◌, length, get_or, take, ℕ, ◌+◌, ◌<◌, Option, Some, None, is_some}
-use Rattle.std.proofs.Common.{IsTrue, refl, sym, ap}
+use Rattle.std.proofs.Common.{arith, ◌≡◌, Bool, true, false, cond, not, ◌||◌, List, [], ◌∷◌, ◌++◌, length, get_or, take, ℕ, ◌+◌, ◌<◌, Option, Some, None}
+use Rattle.std.proofs.Common.{is_some, IsTrue, refl, sym, ap}
 use Rattle.std.proofs.Common.{◌∙◌, subst, true≢false}
 use Rattle.std.proofs.lemmas.List.{take_more}
 use Rattle.std.proofs.lemmas.Option.{none-some, same_Some}
@@ -31,8 +31,7 @@ use Rattle.eco_world.proofs.Changes.{changed_alike, held_at}
 use Rattle.eco_world.proofs.Held.{Held, keys}
 
 absorbed : (b c : Bool) → (IsTrue b → IsTrue c) → (b || c) ≡ c
-absorbed true c f = sym (f refl)
-absorbed false c f = refl
+absorbed b c f = grind arith
 
 -- an id and its mirror: the mirror goes only where the id itself does
 module _ (w : WorldState) (goes : Entity → Id → Bool) (x : Entity) (j : Id) where

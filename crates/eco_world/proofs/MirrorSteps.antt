@@ -1,5 +1,5 @@
 -- A pair of a symmetric relationship comes to both of its entities, or goes from both, by a step of each.
-use Rattle.std.proofs.Common.{◌≡◌, Bool, true, false, cond, Option, Some, None, IsTrue, refl, sym, ap, ◌∙◌, subst, true≢false, inl, inr}
+use Rattle.std.proofs.Common.{arith, ◌≡◌, Bool, true, false, cond, Option, Some, None, IsTrue, refl, sym, ap, ◌∙◌, subst, true≢false, inl, inr}
 use Rattle.std.proofs.lemmas.Option.{same_Some}
 use Rattle.eco_ids.specs.declared.entity.Entity.{Entity}
 use Rattle.eco_ids.specs.declared.id.Id.{Id}
@@ -25,10 +25,7 @@ use Rattle.eco_world.proofs.Losing.{both_taken, mirrored}
 use Rattle.eco_world.proofs.Mirroring.{apart, both_typed}
 
 same_truth : (a b : Bool) → (IsTrue a → IsTrue b) → (IsTrue b → IsTrue a) → a ≡ b
-same_truth true true to back = refl
-same_truth true false to back = sym (to refl)
-same_truth false true to back = back refl
-same_truth false false to back = refl
+same_truth a b to back = grind arith
 
 module _ (w : WorldState) (lawful : IsLawful w) (e : Entity) (i : Id) (m : Entity × Id) (is : mirror_of w e i ≡ Some m) (other : entity_eq m.0 e ≡ false) where
   abbrev goes : Entity → Id → Bool

@@ -1,7 +1,8 @@
 -- Mirrors as moves of a store.
 use Rattle.std.proofs.Common.{◌≡◌, Bool, true, false, cond, not, ◌⊎◌, inl, inr, T, List, [], ◌∷◌, map, filter, fold, Option, Some, None, unwrap_or, is_some}
 use Rattle.std.proofs.Common.{IsTrue}
-use Rattle.std.proofs.Common.{IsFalse, refl, sym, ap, ◌∙◌, subst, true≢false, Result, Ok, Err, OnOk, MatchOption}
+use Rattle.std.proofs.Common.{IsFalse, refl, sym, ap, ◌∙◌, subst, true≢false, MatchOption}
+use Rattle.std.proofs.lemmas.Bool.{false_from_ne_true}
 use Rattle.std.proofs.lemmas.Option.{same_Some, none-some}
 use Rattle.std.specs.FinMap.Entries.{find, put, where_key, is_sorted, is_sorted-where_key, find-where_key}
 use Rattle.std.specs.Option.{option_or}
@@ -95,10 +96,13 @@ alone_typed w e i ids d at alone own = by (mirror_of w e i) refl
 pub apart : (x e : Entity) → entity_eq x e ≡ false → x ≡ e → ⊥
 apart x e other is = not_both (subst (λ y. IsTrue (entity_eq y e)) (sym is) (entity_eq_itself e)) other
 
-value_came : (old : Option Value) (b : Bool) (v : Value) → option_or old (cond b (Some zeros) None) ≡ Some v → unwrap_or old zeros ≡ v
-value_came (Some u) b v e = same_Some u v e
-value_came None true v e = same_Some zeros v e
-value_came None false v e = absurd (none-some v e)
+pub left_value : (old : Option Value) (replaced there : Bool) (v : Value) → (replaced ≡ true → there ≡ false) →
+    option_or (cond (not replaced) old None) (cond there (Some zeros) None) ≡ Some v → unwrap_or old zeros ≡ v
+left_value (Some u) false there v absent e = same_Some u v e
+left_value None false true v absent e = same_Some zeros v e
+left_value None false false v absent e = absurd (none-some v e)
+left_value old true true v absent e = absurd (true≢false (absent refl))
+left_value old true false v absent e = absurd (none-some v e)
 
 -- an id more, with zeros where it wasn't there
 more_typed : (m : Id) (d : Record) → T (is_sorted id_cmp d.held) → with_type (with_item id_cmp (keys d.held) m) d ≡ with_id m d
@@ -106,7 +110,7 @@ more_typed m d up =
     ap (λ held. record d { held = held })
     (ap (λ ids. retyped ids d.held) (sym (keys_zeros (m ∷ []) d.held up))
     ∙ retyped_is (with_zeros d.held m) d.held (zero_sorted d.held m up)
-    (λ j v at. value_came (find id_cmp j d.held) (id_eq m j) v (sym (zero_find d.held m j) ∙ at)))
+    (λ j v at. left_value (find id_cmp j d.held) false (id_eq m j) v (λ h. absurd (true≢false (sym h))) (sym (zero_find d.held m j) ∙ at)))
 
 pub both_typed : (w : WorldState) (e : Entity) (ids : List Id) (h : Entity) (m : Id) → IsLawful w → (h ≡ e → ⊥) →
     changed (changed w e (with_type ids)) h (with_type (with_item id_cmp (type_of w h) m)) ≡ with_mirror (changed w e (with_type ids)) (Some (h, m))
@@ -132,13 +136,9 @@ module _ (goes : Id → Bool) (d : Record) (up : T (is_sorted id_cmp d.held)) wh
       ∙ retyped_is kept d.held kept_sorted (λ j v at. ap (λ o. unwrap_or o zeros) (kept_find (λ k. not (goes k)) d.held j v at)))
 
   stayed : (j : Id) → IsTrue (is_some (find id_cmp j kept)) → IsFalse (goes j)
-  stayed j there = by (goes j) refl
-    where
-      by : (b : Bool) → goes j ≡ b → IsFalse (goes j)
-      by false h = h
-      by true h = absurd (true≢false (sym there
-          ∙ ap is_some (find-where_key id_cmp (λ k. not (goes k)) j (alike (λ k. not (goes k)) j) d.held)
-          ∙ ap (λ b. is_some (cond (not b) (find id_cmp j d.held) None)) h))
+  stayed j there = false_from_ne_true (goes j) (λ h. true≢false (sym there
+      ∙ ap is_some (find-where_key id_cmp (λ k. not (goes k)) j (alike (λ k. not (goes k)) j) d.held)
+      ∙ ap (λ b. is_some (cond (not b) (find id_cmp j d.held) None)) h))
 
   -- and again
   kept_again : with_type (filter (λ j. not (goes j)) (keys d.held)) (keeping goes d) ≡ keeping goes (keeping goes d)
@@ -211,11 +211,6 @@ module _ (w : WorldState) (g : Entity → Id → Bool) (lawful : IsLawful w) whe
   moves_lose es = moved w (record { of = λ x r at. (r, at, inl refl) }) es
 
 -- ---- the same of a store, seen as a world
-
--- a call that leads to a state of the store leads to what that makes the world
-pub made : {A E S W : Type 0} (f : S → W) (r : Result A E) (new x : S) (y : W) → f x ≡ y → OnOk r (new ≡ x) → OnOk r (f new ≡ y)
-made f (Ok a) new x y same h = ap f h ∙ same
-made f (Err b) new x y same h = h
 
 module _ (edition : Edition) (v : Indexed Record) (qs : List (List QueryTerm)) (w : WorldState) (lawful : IsLawful w) (seen : world_with edition v qs ≡ w)
     (ms : List Move) where

@@ -1,6 +1,5 @@
 -- What holds of the world of a store holds whatever queries were added to it.
-use Rattle.std.proofs.Common.{◌≡◌, true, List, [], IsTrue, MatchBool, Result, Ok, Err, ap}
-use Rattle.std.proofs.Common.{false}
+use Rattle.std.proofs.Common.{true, List, [], IsTrue, Result, Ok, Err, ap}
 use Rattle.eco_ids.specs.declared.entity.Entity.{Entity}
 use Rattle.eco_ids.specs.declared.entity.TheConstants.{DELETE, PANIC}
 use Rattle.eco_ids.specs.declared.id.Id.{Id}
@@ -12,7 +11,7 @@ use Rattle.eco_ids.specs.Data.{fits}
 use Rattle.eco_ids.specs.Indices.{Indexed}
 use Rattle.eco_ids.specs.Lawful.{IsLawful, IsLawfulRecord, KeepsEdition}
 use Rattle.eco_ids.specs.Least.{Least, root, next}
-use Rattle.eco_ids.specs.Outcome.{Meets, is_out_of_memory}
+use Rattle.eco_ids.specs.Outcome.{Meets}
 use Rattle.eco_ids.specs.Terms.{QueryTerm}
 use Rattle.eco_ids.specs.declared.edition.Edition.{Edition}
 use Rattle.eco_ids.specs.declared.edition.Edition.TheVariants.{First, Second}
@@ -20,6 +19,7 @@ use Rattle.eco_ids.specs.World.{Record, WorldState, names_living}
 use Rattle.eco_ids.proofs.Meaning.{least}
 use Rattle.eco_store.specs.Worlds.{world_of}
 use Rattle.eco_world.specs.Worlds.{world_with}
+use Rattle.eco_world.proofs.Steps.{meets_as}
 
 -- the same world with these queries, of an edition
 abbrev asking : Edition → List (List QueryTerm) → WorldState → WorldState
@@ -104,20 +104,12 @@ module _ (c d : Edition) (v new : Indexed Record) (qs rs : List (List QueryTerm)
   ends_too (Ok done) x = (ap (asking d rs) x.0, λ h m forbids. x.1 h m (forbids_too d c v rs qs members h m forbids))
   ends_too (Err why) x = (ap (asking d rs) x.0, x.1, x.2, x.3, first_too c d v qs rs members x.1 x.2 x.4)
 
-  meets_too : (r : Result (Unit {0}) Refusal) → Meets (Ends (world_with c v qs) members) true (world_with c v qs) r (world_with c new qs)
-      → Meets (Ends (world_with d v rs) members) true (world_with d v rs) r (world_with d new rs)
-  meets_too r =
-      elim (is_out_of_memory r) as (λ b.
-      MatchBool b (IsTrue true × (world_with c new qs ≡ world_with c v qs)) (Ends (world_with c v qs) members r (world_with c new qs)) →
-      MatchBool b (IsTrue true × (world_with d new rs ≡ world_with d v rs)) (Ends (world_with d v rs) members r (world_with d new rs))) [
-        | true ↦ λ m. (m.0, ap (asking d rs) m.1)
-        | false ↦ ends_too r
-      ]
-
 -- what a delete of a store promises it keeps in the world
 pub ends_with : (edition : Edition) (v new : Indexed Record) (qs : List (List QueryTerm)) (r : Result (Unit {0}) Refusal) (IsRoot : Entity → Type 0)
     → ((members : List Entity) → IsDoomed (world_of v) IsRoot members → Meets (Ends (world_of v) members) true (world_of v) r (world_of new))
     → (members : List Entity) → IsDoomed (world_with edition v qs) IsRoot members
     → Meets (Ends (world_with edition v qs) members) true (world_with edition v qs) r (world_with edition new qs)
 ends_with edition v new qs r IsRoot ends members all =
-    meets_too First edition v new [] qs members r (ends members (list_too edition First v qs [] IsRoot members all))
+    meets_as (Ends (world_of v) members) (Ends (world_with edition v qs) members) true true (world_of v) (world_of new) _ _ r
+    (λ wants same. (wants, ap (asking edition qs) same)) (ends_too First edition v new [] qs members r)
+    (ends members (list_too edition First v qs [] IsRoot members all))

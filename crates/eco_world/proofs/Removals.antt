@@ -1,9 +1,10 @@
 -- An id goes from every entity that has it.
-use Rattle.std.proofs.Common.{◌≡◌, ℕ, suc, ◌+◌, ◌-◌, ◌<◌, Bool, true, false, ◌||◌, List, [], ◌∷◌, map, length, get_or, slice_get, Option, None, Some}
-use Rattle.std.proofs.Common.{option_map, is_some, Ok, IsTrue, IsFalse, ◌↔◌, refl, sym, ap, ◌∙◌, subst, arith}
+use Rattle.std.proofs.Common.{◌≡◌, ℕ, suc, ◌+◌, ◌-◌, ◌<◌, Bool, false, ◌||◌, List, [], ◌∷◌, map, length, get_or, slice_get, Option, None, Some}
+use Rattle.std.proofs.Common.{option_map, is_some, Ok, IsTrue, ◌↔◌, refl, sym, ap, ◌∙◌, subst, arith}
 use Rattle.std.specs.List.{All, Contains, list_any, range_with_len}
 use Rattle.std.specs.FinMap.Entries.{find}
 use Rattle.std.proofs.lemmas.List.{get_or-map, length-map}
+use Rattle.std.proofs.lemmas.Bool.{false_from_ne_true}
 use Rattle.std.proofs.lemmas.Option.{none-some, same_Some}
 use Rattle.eco_ids.specs.declared.edition.Edition.{Edition}
 use Rattle.eco_ids.specs.declared.entity.Entity.{Entity}
@@ -59,14 +60,9 @@ states_kept f (Living n r ∷ xs) kept = let here = kept 0 n r refl in let rest 
 pub nobody_loses : (w : WorldState) (i : Id) → ((e : Entity) → has w e i ≡ false) → w ≡ without w nobody (λ x j. id_eq j i)
 nobody_loses w i none =
     sym (without_from_all w (λ j. id_eq j i) ∙ ap (λ xs. record w { indices = xs }) (states_kept (keeping (λ j. id_eq j i)) w.indices
-    (λ k n r at. keeps_all (λ j. id_eq j i) r (λ j there. by (record { index = k; generation = n }) r at j there (id_eq j i) refl))))
-  where
-    by : (e : Entity) (r : Record) → slice_get w.indices e.index ≡ Some (Living e.generation r) → (j : Id)
-        → IsTrue (is_some (find id_cmp j r.held)) → (b : Bool) → id_eq j i ≡ b → IsFalse b
-    by e r at j there true is =
-        absurd (not_both (subst (λ k. IsTrue (is_some (find id_cmp k r.held))) (id_eq_is j i is) there)
-        (ap (λ o. has_in o i) (sym (record_at (entities w) e r at)) ∙ none e))
-    by e r at j there false is = refl
+    (λ k n r at. keeps_all (λ j. id_eq j i) r (λ j there. false_from_ne_true (id_eq j i) (λ is.
+    not_both (subst (λ k. IsTrue (is_some (find id_cmp k r.held))) (id_eq_is j i is) there)
+    (ap (λ o. has_in o i) (sym (record_at (entities w) (record { index = k; generation = n }) r at)) ∙ none (record { index = k; generation = n })))))))
 
 -- ---- the changes that are found
 

@@ -12,31 +12,32 @@ use Rattle.eco_ids.specs.Names.{is_proper, is_same_name, is_taken}
 use Rattle.eco_ids.specs.Outcome.{Meets, Answers, Refuses, first_refusal, is_out_of_memory}
 use Rattle.eco_ids.specs.Step.{Renames, may_rename, own_name, with_name}
 use Rattle.eco_ids.specs.World.{WorldState, Record, entities, OnEntities, is_alive}
+use Rattle.eco_ids.proofs.Admits.{meets_lawful}
 use Rattle.eco_world.specs.Actor.{IsUnfit}
 use Rattle.eco_ids.specs.Terms.{QueryTerm}
 use Rattle.eco_world.specs.Worlds.{world_with}
 
-module _ {A : Type 0} (edition : Edition) (qs : List (List QueryTerm)) (Step : Indexed Record → Result A Refusal → Indexed Record → Type 0) (may : Bool)
-    (v new : Indexed Record) (r : Result A Refusal) where
-  -- a call that meets a step of the entities meets it in the world
-  pub lifted : Meets (Step v) may v r new → Meets (OnEntities Step (world_with edition v qs)) may (world_with edition v qs) r (world_with edition new qs)
-  lifted =
-      elim (is_out_of_memory r) as (λ b. MatchBool b (IsTrue may × (new ≡ v)) (Step v r new) →
-      MatchBool b (IsTrue may × (world_with edition new qs ≡ world_with edition v qs))
-      (OnEntities Step (world_with edition v qs) r (world_with edition new qs))) [
-        | true ↦ λ m. (m.0, ap (λ x. world_with edition x qs) m.1)
-        | false ↦ λ made. (new, made, refl)
-      ]
+-- a call that meets a step meets one that follows from it, of the same state or of what is made of it
+pub meets_as : {A S T : Type 0} (Step : Result A Refusal → S → Type 0) (Other : Result A Refusal → T → Type 0) (may other : Bool) (old new : S) (was now : T)
+    (r : Result A Refusal) → (IsTrue may → new ≡ old → IsTrue other × (now ≡ was)) → (Step r new → Other r now) → Meets Step may old r new
+    → Meets Other other was r now
+meets_as Step Other may other old new was now r wanting done =
+    elim (is_out_of_memory r) as (λ b. MatchBool b (IsTrue may × (new ≡ old)) (Step r new) → MatchBool b (IsTrue other × (now ≡ was)) (Other r now)) [
+      | true ↦ λ m. wanting m.0 m.1
+      | false ↦ done
+    ]
 
-  -- where the step keeps the world lawful, the call does
-  pub lawful_lifted : IsLawful (world_with edition v qs) →
-      (OnEntities Step (world_with edition v qs) r (world_with edition new qs) → IsLawful (world_with edition new qs)) →
-      Meets (Step v) may v r new → IsLawful (world_with edition new qs)
-  lawful_lifted was keeps =
-      elim (is_out_of_memory r) as (λ b. MatchBool b (IsTrue may × (new ≡ v)) (Step v r new) → IsLawful (world_with edition new qs)) [
-        | true ↦ λ m. subst (λ x. IsLawful (world_with edition x qs)) (sym m.1) was
-        | false ↦ λ made. keeps (new, made, refl)
-      ]
+-- a call that meets a step of the entities meets it in the world
+pub lifted : {A : Type 0} (edition : Edition) (qs : List (List QueryTerm)) (Step : Indexed Record → Result A Refusal → Indexed Record → Type 0) (may : Bool)
+    (v new : Indexed Record) (r : Result A Refusal) → Meets (Step v) may v r new
+    → Meets (OnEntities Step (world_with edition v qs)) may (world_with edition v qs) r (world_with edition new qs)
+lifted edition qs Step may v new r = meets_as (Step v) (OnEntities Step (world_with edition v qs)) may may v new _ _ r
+    (λ wants same. (wants, ap (λ x. world_with edition x qs) same)) (λ made. (new, made, refl))
+
+-- a call that meets a step which keeps the world lawful does so, as the store is seen
+pub met_lawful : {A : Type 0} (Step : Result A Refusal → WorldState → Type 0) (may : Bool) (seen w new : WorldState) (r : Result A Refusal) → seen ≡ w →
+    IsLawful seen → (IsLawful w → Step r new → IsLawful new) → Meets Step may w r new → IsLawful new
+met_lawful Step may seen w new r is was keeps = let lawful = subst IsLawful is was in meets_lawful Step may w r new lawful (keeps lawful)
 
 module _ (w : WorldState) (e : Entity) (reserved : Bool) (why : Refusal) (unfit : IsUnfit w e reserved why) where
   -- what is refused for who acts is met by each step that refuses that

@@ -2,8 +2,10 @@
 use Rattle.std.proofs.Common.{◌≡◌, ◌≢◌, ℕ, zero, suc, ◌<◌, Bool, true, false, cond, not, nat_eq, nat_lt, List, [], ◌∷◌, map, length, slice_get, Option, Some}
 use Rattle.std.proofs.Common.{None, option_map, unwrap_or, is_some, is_eq, refl, sym, ap, ◌∙◌, subst, arith, IsTrue, true≢false, inl, inr, Contains}
 use Rattle.std.specs.List.{All, AllByRecursion, IsDistinct, list_any}
+use Rattle.std.proofs.lemmas.Bool.{false_from_ne_true}
 use Rattle.std.proofs.lemmas.Bool.Decides.{nat_tests, Decides-eqb}
-use Rattle.std.proofs.lemmas.Option.{none-some, same_Some, slice_get_within}
+use Rattle.std.proofs.lemmas.Map.Views.{Contains-from_any}
+use Rattle.std.proofs.lemmas.Option.{get_or_from_slice_get, none-some, same_Some, slice_get-get_or, slice_get_within}
 use Rattle.eco_ids.specs.World.{WorldState, entities, is_alive, living, record_of}
 use Rattle.eco_ids.specs.declared.entity.Entity.{Entity}
 use Rattle.eco_ids.specs.declared.id.Id.{Id}
@@ -14,7 +16,8 @@ use Rattle.eco_tables.specs.Tables.{no_row, no_table, slot_of, table_in}
 use Rattle.eco_archetypes.specs.Archetypes.{is_found_by, type_at, row_at}
 use Rattle.eco_store.specs.Store.{IsShown, Stands}
 use Rattle.eco_ids.proofs.Ascending.{both, first, second}
-use Rattle.eco_ids.proofs.Facts.{or_parts, or_right}
+use Rattle.eco_ids.proofs.Facts.{or_left, or_parts, or_right}
+use Rattle.eco_ids.proofs.Keeps.{some_of}
 use Rattle.eco_ids.proofs.Overlaps.{entity_eq_is}
 use Rattle.eco_ids.specs.World.{Record}
 use Rattle.eco_traits.specs.Target.{type_of_record}
@@ -22,7 +25,7 @@ use Rattle.eco_ids.proofs.Passing.{passes_some}
 use Rattle.eco_world.specs.Queries.{is_passed}
 use Rattle.eco_world.specs.Layouts.{HasTable, shown_at, shown_of}
 use Rattle.eco_world.specs.Types.{type_of}
-use Rattle.eco_world.proofs.Layouts.{or_left, Covers, IsTable, all_of, element_cases, here, no_element, same_ids, same_type, there}
+use Rattle.eco_world.proofs.Layouts.{Covers, IsTable, all_of, element_cases, here, mapped_from, mapped_there, no_element, same_ids, same_type, there}
 
 itself : (n : ℕ) → nat_eq n n ≡ true
 itself n = (Decides-eqb n n).1 refl
@@ -30,17 +33,14 @@ itself n = (Decides-eqb n n).1 refl
 -- ---- rows of a table
 
 row_of : (rows : List TableRow) (e : Entity) → Contains (entities_of rows) e → (k : ℕ) × (r : TableRow) × (slice_get rows k ≡ Some r) × (r.entity ≡ e)
-row_of [] e p = absurd (no_element e p)
-row_of (r ∷ rows) e p = elim (element_cases r.entity e (entities_of rows) p) as (λ _. (k : ℕ) × (x : TableRow) × (slice_get (r ∷ rows) k ≡ Some x)
-    × (x.entity ≡ e)) [
-      | inl same ↦ (0, r, refl, same)
-      | inr c ↦ let later = row_of rows e c in (suc later.0, later.1, later.2, later.3)
-    ]
+row_of rows e p =
+    let row = mapped_from (λ (r : TableRow). r.entity) rows e p in
+    let at = row.1 in
+    (at.0, row.0, slice_get-get_or rows at.0 row.0 at.1 ∙ ap Some at.2, row.2)
 
 entity_in_row : (rows : List TableRow) (k : ℕ) (r : TableRow) → slice_get rows k ≡ Some r → Contains (entities_of rows) r.entity
-entity_in_row [] k r at = absurd (none-some r at)
-entity_in_row (x ∷ rows) zero r at = subst (λ (y : TableRow). Contains (entities_of (x ∷ rows)) y.entity) (same_Some x r at) (here x.entity (entities_of rows))
-entity_in_row (x ∷ rows) (suc k) r at = there x.entity r.entity (entities_of rows) (entity_in_row rows k r at)
+entity_in_row rows k r at =
+    mapped_there (λ (x : TableRow). x.entity) rows r (k, slice_get_within rows k r at, get_or_from_slice_get rows k r r at)
 
 has_row : (rows : List TableRow) (e : Entity) → has_item entity_cmp (entities_of rows) e ≡ true → Contains (entities_of rows) e
 has_row [] e h = absurd (true≢false (sym h))
@@ -84,36 +84,40 @@ table_there (Some t) within = refl
 
 -- ---- all tables that have rows
 
--- the tables that have rows, among these in their slots
+-- what is made of each table that has rows, among these in their slots
+abbrev pub made_of : {X : Type 0} → (TableState → X) → List (Option TableState) → List X
+made_of f [] = []
+made_of f (None ∷ slots) = made_of f slots
+made_of f (Some t ∷ slots) = cond (nat_lt 0 (length t.rows)) (f t ∷ made_of f slots) (made_of f slots)
+
 abbrev pub with_rows : List (Option TableState) → List ListedTable
-with_rows [] = []
-with_rows (None ∷ slots) = with_rows slots
-with_rows (Some t ∷ slots) = cond (nat_lt 0 (length t.rows)) (shown_of t ∷ with_rows slots) (with_rows slots)
+with_rows = made_of shown_of
 
 -- where none is left, there is no slot
 pub none_left : (slots : List (Option TableState)) → length slots ≡ 0 → slots ≡ []
 none_left [] e = refl
 none_left (o ∷ slots) e = absurd (omega (arith, e))
 
--- the table is listed for a slot of these
-abbrev Found : List (Option TableState) → ListedTable → Type 0
-Found slots t = (n : ℕ) × (table : TableState) × (slot_of slots n ≡ Some table) × (0 < length table.rows) × (shown_of table ≡ t)
+module _ {X : Type 0} (f : TableState → X) where
+  -- it is made of the table in a slot of these
+  abbrev Found : List (Option TableState) → X → Type 0
+  Found slots x = (n : ℕ) × (table : TableState) × (slot_of slots n ≡ Some table) × (0 < length table.rows) × (f table ≡ x)
 
-with_rows_to : (slots : List (Option TableState)) (t : ListedTable) → Contains (with_rows slots) t → Found slots t
-with_rows_to [] t p = absurd (no_element t p)
-with_rows_to (None ∷ slots) t p = let later = with_rows_to slots t p in (suc later.0, later.1, later.2, later.3, later.4)
-with_rows_to (Some table ∷ slots) t p = by (nat_lt 0 (length table.rows)) refl (with_rows_to slots t) p
-  where
-    after : Found slots t → Found (Some table ∷ slots) t
-    after later = (suc later.0, later.1, later.2, later.3, later.4)
+  pub found_made : (slots : List (Option TableState)) (x : X) → Contains (made_of f slots) x → Found slots x
+  found_made [] x p = absurd (no_element x p)
+  found_made (None ∷ slots) x p = let later = found_made slots x p in (suc later.0, later.1, later.2, later.3, later.4)
+  found_made (Some table ∷ slots) x p = by (nat_lt 0 (length table.rows)) refl (found_made slots x) p
+    where
+      after : Found slots x → Found (Some table ∷ slots) x
+      after later = (suc later.0, later.1, later.2, later.3, later.4)
 
-    by : (b : Bool) → nat_lt 0 (length table.rows) ≡ b → (Contains (with_rows slots) t → Found slots t)
-        → Contains (cond b (shown_of table ∷ with_rows slots) (with_rows slots)) t → Found (Some table ∷ slots) t
-    by true some rest q = elim (element_cases (shown_of table) t (with_rows slots) q) as (λ _. Found (Some table ∷ slots) t) [
-      | inl e ↦ let positive : 0 < length table.rows = grind (arith, nat_tests) in (0, table, refl, positive, e)
-      | inr c ↦ after (rest c)
-    ]
-    by false none rest q = after (rest q)
+      by : (b : Bool) → nat_lt 0 (length table.rows) ≡ b → (Contains (made_of f slots) x → Found slots x)
+          → Contains (cond b (f table ∷ made_of f slots) (made_of f slots)) x → Found (Some table ∷ slots) x
+      by true some rest q = elim (element_cases (f table) x (made_of f slots) q) as (λ _. Found (Some table ∷ slots) x) [
+        | inl e ↦ let positive : 0 < length table.rows = grind (arith, nat_tests) in (0, table, refl, positive, e)
+        | inr c ↦ after (rest c)
+      ]
+      by false none rest q = after (rest q)
 
 with_rows_from : (slots : List (Option TableState)) (n : ℕ) (table : TableState) → slot_of slots n ≡ Some table → 0 < length table.rows →
     Contains (with_rows slots) (shown_of table)
@@ -141,11 +145,8 @@ HasKinds slots = (n m : ℕ) (ids : List Id) → type_at slots n ≡ Some ids �
 
 no_other : (x : ListedTable) (ts : List ListedTable) → ((t : ListedTable) → Contains ts t → x.ids ≡ t.ids → ⊥) → AllByRecursion (λ t. same_type x t ≡ false) ts
 no_other x [] apart = tt
-no_other x (t ∷ ts) apart = (by (same_type x t) refl, no_other x ts (λ u c. apart u (there t u ts c)))
-  where
-    by : (b : Bool) → same_type x t ≡ b → b ≡ false
-    by true e = absurd (apart t (here t ts) (same_ids x.ids t.ids e))
-    by false e = refl
+no_other x (t ∷ ts) apart =
+    (false_from_ne_true (same_type x t) (λ e. apart t (here t ts) (same_ids x.ids t.ids e)), no_other x ts (λ u c. apart u (there t u ts c)))
 
 pub kinds_differ : (slots : List (Option TableState)) → HasKinds slots → IsDistinct same_type (with_rows slots)
 unfolding IsDistinct
@@ -160,7 +161,7 @@ kinds_differ (Some table ∷ slots) kinds = by (nat_lt 0 (length table.rows))
       where
         apart : (t : ListedTable) → Contains (with_rows slots) t → table.ids ≡ t.ids → ⊥
         apart t c same =
-            let later = with_rows_to slots t c in
+            let later = found_made shown_of slots t c in
             let again : 0 ≡ suc later.0 = kinds 0 (suc later.0) table.ids refl
             (ap (option_map (λ (x : TableState). x.ids)) later.2 ∙ ap Some (ap (λ (x : ListedTable). x.ids) later.4 ∙ sym same)) in
             omega arith
@@ -179,27 +180,26 @@ module _ (w : WorldState) (slots : List (Option TableState)) (shown : IsShown (e
       let stands = stands_typed (record_of w r.entity) (table_in slots n) row (shown.rows n row r at) (shown.own n) in
       stands
 
+  type_there : (n : ℕ) → 0 < length (table_in slots n).rows → type_at slots n ≡ Some (table_in slots n).ids
+  type_there n some = ap (option_map (λ (t : TableState). t.ids)) (table_there (slot_of slots n) some)
+
   -- where a type with rows passes, some living entity's does
   some_passes : (passes : List Id → Bool) (n : ℕ) → 0 < length (table_in slots n).rows → passes (table_in slots n).ids ≡ true →
       list_any (λ (x : Entity × Record). passes (type_of_record x.1)) (living w) ≡ true
   some_passes passes n some fit =
       let row = first_row (table_in slots n).rows some in
       let own = row_lives n 0 row.0 row.1 in
-      by row.0.entity (record_of w row.0.entity) refl own.0 (ap passes (sym own.1) ∙ fit)
-    where
-      by : (e : Entity) (o : Option Record) → record_of w e ≡ o → is_some o ≡ true →
-          passes (map (λ p. p.0) (unwrap_or (option_map (λ (k : Record). k.held) o) [])) ≡ true →
-          list_any (λ (x : Entity × Record). passes (type_of_record x.1)) (living w) ≡ true
-      by e None at lives fit = absurd (true≢false (sym lives))
-      by e (Some k) at lives fit = passes_some (λ (r : Record). passes (type_of_record r)) (entities w) e (k, at, fit)
+      let known = some_of (record_of w row.0.entity) own.0 in
+      passes_some (λ (r : Record). passes (type_of_record r)) (entities w) row.0.entity (
+        known.0,
+        known.1,
+        ap (λ o. passes (map (λ p. p.0) (unwrap_or (option_map (λ (k : Record). k.held) o) []))) (sym known.1)
+            ∙ ap passes (sym own.1) ∙ fit,
+      )
 
   -- the row of a living entity
   row_there : (e : Entity) → IsTrue (is_alive w e) → (n : ℕ) × (row : ℕ) × (r : TableRow) × (row_at slots n row ≡ Some r) × (r.entity ≡ e)
-  row_there e alive = by (record_of w e) refl alive
-    where
-      by : (o : Option Record) → record_of w e ≡ o → is_some o ≡ true → (n : ℕ) × (row : ℕ) × (r : TableRow) × (row_at slots n row ≡ Some r) × (r.entity ≡ e)
-      by None at h = absurd (true≢false (sym h))
-      by (Some k) at h = shown.living e k at
+  row_there e alive = let own = some_of (record_of w e) alive in shown.living e own.0 own.1
 
   pub table_is : (n : ℕ) → 0 < length (table_in slots n).rows → IsTable w (shown_of (table_in slots n))
   table_is n some = record {
@@ -219,10 +219,8 @@ module _ (w : WorldState) (slots : List (Option TableState)) (shown : IsShown (e
           let own = row_lives row.0 row.1 row.2 row.3 in
           let kind : (table_in slots row.0).ids ≡ (table_in slots n).ids = own.1 ∙ ap (type_of w) row.4 ∙ sym h.1 in
           let same : n ≡ row.0 =
-          kinds n row.0 (table_in slots n).ids
-          (ap (option_map (λ (t : TableState). t.ids)) (table_there (slot_of slots n) some))
-          (ap (option_map (λ (t : TableState). t.ids)) (table_there (slot_of slots row.0) (has_rows (table_in slots row.0).rows row.1 row.2 row.3))
-          ∙ ap Some kind) in
+          kinds n row.0 (table_in slots n).ids (type_there n some)
+          (type_there row.0 (has_rows (table_in slots row.0).rows row.1 row.2 row.3) ∙ ap Some kind) in
           subst (λ m. Contains (entities_of (table_in slots m).rows) e) (sym same)
           (subst (Contains (entities_of (table_in slots row.0).rows)) row.4 (entity_in_row (table_in slots row.0).rows row.1 row.2 row.3))
 
@@ -243,31 +241,25 @@ module _ (w : WorldState) (slots : List (Option TableState)) (shown : IsShown (e
   pub all_covered : Covers w (λ _. true) (with_rows slots)
   all_covered = covers_of (λ _. true) (with_rows slots)
       (λ t p.
-      let found = with_rows_to slots t p in
+      let found = found_made shown_of slots t p in
       let is : table_in slots found.0 ≡ found.1 = ap (λ o. unwrap_or o no_table) found.2 in
       (found.0, subst (λ (x : TableState). 0 < length x.rows) (sym is) found.3, ap shown_of is ∙ found.4))
       (λ n some _. with_rows_from slots n (table_in slots n) (table_there (slot_of slots n) some) some)
 
   -- ---- those that a test finds
 
-  shown_to : (ns : List ℕ) (t : ListedTable) → Contains (map (shown_at slots) ns) t → (n : ℕ) × (list_any (nat_eq n) ns ≡ true) × (shown_at slots n ≡ t)
-  shown_to [] t p = absurd (no_element t p)
-  shown_to (n ∷ ns) t p = elim (element_cases (shown_at slots n) t (map (shown_at slots) ns) p) as (λ _. (m : ℕ) × (list_any (nat_eq m) (n ∷ ns) ≡ true)
-      × (shown_at slots m ≡ t)) [
-        | inl e ↦ (n, or_left (nat_eq n n) (list_any (nat_eq n) ns) (itself n), e)
-        | inr c ↦ let later = shown_to ns t c in (later.0, or_right (nat_eq later.0 n) (list_any (nat_eq later.0) ns) later.1, later.2)
-      ]
-
-  shown_from : (ns : List ℕ) (n : ℕ) → list_any (nat_eq n) ns ≡ true → Contains (map (shown_at slots) ns) (shown_at slots n)
-  shown_from [] n h = absurd (true≢false (sym h))
-  shown_from (m ∷ ns) n h = elim (or_parts (nat_eq n m) (list_any (nat_eq n) ns) h) as (λ _. Contains (map (shown_at slots) (m ∷ ns)) (shown_at slots n)) [
-    | inl e ↦ subst (λ k. Contains (map (shown_at slots) (m ∷ ns)) (shown_at slots k)) (sym ((Decides-eqb n m).0 e))
-        (here (shown_at slots m) (map (shown_at slots) ns))
-    | inr c ↦ there (shown_at slots m) (shown_at slots n) (map (shown_at slots) ns) (shown_from ns n c)
+  any_of : (ms : List ℕ) (n : ℕ) → Contains ms n → list_any (nat_eq n) ms ≡ true
+  any_of [] n p = absurd (no_element n p)
+  any_of (m ∷ ms) n p = elim (element_cases m n ms p) as (λ _. list_any (nat_eq n) (m ∷ ms) ≡ true) [
+    | inl e ↦ or_left (nat_eq n m) (list_any (nat_eq n) ms) (ap (nat_eq n) e ∙ itself n)
+    | inr c ↦ or_right (nat_eq n m) (list_any (nat_eq n) ms) (any_of ms n c)
   ]
 
-  type_there : (n : ℕ) → 0 < length (table_in slots n).rows → type_at slots n ≡ Some (table_in slots n).ids
-  type_there n some = ap (option_map (λ (t : TableState). t.ids)) (table_there (slot_of slots n) some)
+  shown_to : (ns : List ℕ) (t : ListedTable) → Contains (map (shown_at slots) ns) t → (n : ℕ) × (list_any (nat_eq n) ns ≡ true) × (shown_at slots n ≡ t)
+  shown_to ns t p = let one = mapped_from (shown_at slots) ns t p in (one.0, any_of ns one.0 one.1, one.2)
+
+  shown_from : (ns : List ℕ) (n : ℕ) → list_any (nat_eq n) ns ≡ true → Contains (map (shown_at slots) ns) (shown_at slots n)
+  shown_from ns n h = mapped_there (shown_at slots) ns n (Contains-from_any {eq = nat_eq} (λ x y. (Decides-eqb x y).0) n ns h)
 
   -- tables of different slots have different types
   shown_differ : (ns : List ℕ) → ((n : ℕ) → list_any (nat_eq n) ns ≡ true → 0 < length (table_in slots n).rows) → IsDistinct nat_eq ns →
@@ -282,18 +274,17 @@ module _ (w : WorldState) (slots : List (Option TableState)) (shown : IsShown (e
       own : 0 < length (table_in slots n).rows
       own = some n (or_left (nat_eq n n) (list_any (nat_eq n) ns) (itself n))
 
-      other : (m : ℕ) → nat_eq n m ≡ false → 0 < length (table_in slots m).rows → (b : Bool) → same_type (shown_at slots n) (shown_at slots m) ≡ b → b ≡ false
-      other m differ theirs true e =
+      other : (m : ℕ) → nat_eq n m ≡ false → 0 < length (table_in slots m).rows → same_type (shown_at slots n) (shown_at slots m) ≡ false
+      other m differ theirs = false_from_ne_true _ (λ e.
           let kind : (table_in slots m).ids ≡ (table_in slots n).ids = sym (same_ids (table_in slots n).ids (table_in slots m).ids e) in
           let same : n ≡ m = kinds n m (table_in slots n).ids (type_there n own) (type_there m theirs ∙ ap Some kind) in
-          sym (itself n) ∙ ap (nat_eq n) same ∙ differ
-      other m differ theirs false e = refl
+          true≢false (sym (itself n) ∙ ap (nat_eq n) same ∙ differ))
 
       apart : (ms : List ℕ) → AllByRecursion (λ m. nat_eq n m ≡ false) ms → ((m : ℕ) → list_any (nat_eq m) ms ≡ true → 0 < length (table_in slots m).rows) →
           AllByRecursion (λ t. same_type (shown_at slots n) t ≡ false) (map (shown_at slots) ms)
       apart [] differ theirs = tt
       apart (m ∷ ms) differ theirs = (
-        other m differ.0 (theirs m (or_left (nat_eq m m) (list_any (nat_eq m) ms) (itself m))) (same_type (shown_at slots n) (shown_at slots m)) refl,
+        other m differ.0 (theirs m (or_left (nat_eq m m) (list_any (nat_eq m) ms) (itself m))),
         apart ms differ.1 (λ k h. theirs k (or_right (nat_eq k m) (list_any (nat_eq k) ms) h)),
       )
 
@@ -315,18 +306,7 @@ module _ (w : WorldState) (slots : List (Option TableState)) (shown : IsShown (e
 
     -- each slot that was found has a table
     pub found_there : All (HasTable slots) ns
-    found_there = all_of (HasTable slots) ns (λ n p. table_in_slot (slot_of slots n) (found_rows n (any_of ns n p)).0)
-      where
-        any_of : (ms : List ℕ) (n : ℕ) → Contains ms n → list_any (nat_eq n) ms ≡ true
-        any_of [] n p = absurd (no_element n p)
-        any_of (m ∷ ms) n p = elim (element_cases m n ms p) as (λ _. list_any (nat_eq n) (m ∷ ms) ≡ true) [
-          | inl e ↦ or_left (nat_eq n m) (list_any (nat_eq n) ms) (ap (nat_eq n) e ∙ itself n)
-          | inr c ↦ or_right (nat_eq n m) (list_any (nat_eq n) ms) (any_of ms n c)
-        ]
-
-        table_in_slot : (o : Option TableState) → 0 < length (unwrap_or o no_table).rows → is_some o ≡ true
-        table_in_slot None within = absurd (omega arith)
-        table_in_slot (Some t) within = refl
+    found_there = all_of (HasTable slots) ns (λ n p. ap is_some (table_there (slot_of slots n) (found_rows n (any_of ns n p)).0))
 
     pub found_match : (t : ListedTable) → Contains (map (shown_at slots) ns) t → passes t.ids ≡ true
     found_match t p =

@@ -1,6 +1,6 @@
 -- What the first difference of two types decides.
-use Rattle.std.proofs.Common.{◌≡◌, ℕ, ◌+◌, ◌<◌, suc, zero, Bool, true, false, cond, nat_eq, nat_lt, List, [], ◌∷◌, length, get_or, min, Some, None}
-use Rattle.std.proofs.Common.{refl, sym, ap, ◌∙◌, arith, true≢false, is_some, is_lt, unwrap_or, Ordering, Less, Equal, Greater, le_of_suc-le-suc}
+use Rattle.std.proofs.Common.{◌≡◌, ℕ, ◌+◌, ◌<◌, suc, zero, Bool, nat_lt, List, [], ◌∷◌, length, get_or, min, Some, None}
+use Rattle.std.proofs.Common.{refl, ap, ◌∙◌, arith, is_lt, Ordering, le_of_suc-le-suc}
 use Rattle.std.proofs.Math.ListN.{drop}
 use Rattle.std.specs.Cmp.Lexicographic.{slice_cmp}
 use Rattle.std.specs.Ordering.{nat_cmp, ordering_then}
@@ -8,22 +8,13 @@ use Rattle.std.proofs.cmp.SliceLoops.{Rest, begun, ended}
 use Rattle.eco_world.specs.Layouts.{decided}
 
 settles : (o rest : Ordering) (b : Bool) → Some b ≡ decided o → b ≡ is_lt (ordering_then o rest)
-settles Less rest b h = ap (λ x. unwrap_or x false) h
-settles Equal rest b h = absurd (true≢false (ap is_some h))
-settles Greater rest b h = ap (λ x. unwrap_or x true) h
+settles o rest b h = grind arith
 
 ties : (o rest : Ordering) → None ≡ decided o → rest ≡ ordering_then o rest
-ties Less rest h = absurd (true≢false (sym (ap is_some h)))
-ties Equal rest h = refl
-ties Greater rest h = absurd (true≢false (sym (ap is_some h)))
+ties o rest h = grind arith
 
 is_lt_nat : (a b : ℕ) → nat_lt a b ≡ is_lt (nat_cmp a b)
-is_lt_nat a b = by (nat_lt a b) (nat_eq a b)
-  where
-    by : (less same : Bool) → less ≡ is_lt (cond less Less (cond same Equal Greater))
-    by true same = refl
-    by false true = refl
-    by false false = refl
+is_lt_nat a b = grind arith
 
 module _ {X : Type 0} where
   same_read : (xs : List X) (n : ℕ) (d e : X) → n < length xs → get_or xs n d ≡ get_or xs n e

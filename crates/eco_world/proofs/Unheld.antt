@@ -1,8 +1,8 @@
 -- An entity that no id names dies alone.
 use Rattle.std.proofs.Common.{◌≡◌, ℕ, ◌+◌, Bool, true, false, true≢false, cond, ◌||◌, ◌⊎◌, List, [], ◌∷◌, map, slice_get, slice_set, Option}
 use Rattle.std.proofs.Common.{Some, None, option_map, is_some}
-use Rattle.std.proofs.Common.{IsTrue, IsFalse, Ok, refl, sym, ap, ◌∙◌, subst, inl, inr, arith}
-use Rattle.std.specs.FinMap.Entries.{find}
+use Rattle.std.proofs.Common.{IsTrue, Ok, refl, sym, ap, ◌∙◌, subst, inl, inr, arith}
+use Rattle.std.proofs.lemmas.Bool.{false_from_ne_true}
 use Rattle.std.specs.List.{list_any}
 use Rattle.eco_ids.specs.declared.edition.Edition.{Edition}
 use Rattle.eco_ids.specs.declared.entity.Entity.{Entity}
@@ -15,7 +15,7 @@ use Rattle.eco_ids.specs.Delete.{DeletesOne}
 use Rattle.eco_ids.specs.Indices.{Indexed, IndexState, Retired, Free, Living, map_from, raised, with_death}
 use Rattle.eco_ids.specs.Least.{root}
 use Rattle.eco_ids.specs.Losses.{keeping, left_at}
-use Rattle.eco_ids.specs.Order.{entity_cmp, entity_eq, has_item, id_cmp, id_eq, names_entity}
+use Rattle.eco_ids.specs.Order.{entity_cmp, entity_eq, has_item, id_eq, names_entity}
 use Rattle.eco_ids.specs.World.{Record, WorldState, entities, has, is_alive, living, record_of, with_entities}
 use Rattle.eco_ids.proofs.AtPlaces.{get_left, same_number, same_places}
 use Rattle.eco_ids.proofs.Exact.{keys_find}
@@ -95,15 +95,11 @@ module _ (w : WorldState) (e : Entity) (lives : is_alive w e ≡ true)
 
   -- the others keep all their ids
   kept : (k g : ℕ) (d : Record) → slice_get w.indices k ≡ Some (Living g d) → keeping (names_any (e ∷ [])) d ≡ d
-  kept k g d at = keeps_all (names_any (e ∷ [])) d (λ i there. stays i there (names_any (e ∷ []) i) refl)
+  kept k g d at = keeps_all (names_any (e ∷ [])) d (λ i there. false_from_ne_true (names_any (e ∷ []) i) (λ names.
+      unnamed holder i (ap (λ o. has_in o i) (record_at (entities w) holder d at) ∙ there) (named_alone e i names)))
     where
       holder : Entity
       holder = record { index = k; generation = g }
-
-      stays : (i : Id) → IsTrue (is_some (find id_cmp i d.held)) → (b : Bool) → names_any (e ∷ []) i ≡ b → IsFalse b
-      stays i there true names =
-          absurd (unnamed holder i (ap (λ o. has_in o i) (record_at (entities w) holder d at) ∙ there) (named_alone e i names))
-      stays i there false names = refl
 
   abbrev left : ℕ → IndexState Record → IndexState Record
   left = left_at (has_item entity_cmp (e ∷ [])) (λ x i. names_any (e ∷ []) i)

@@ -1,5 +1,5 @@
-use Rattle.std.proofs.Common.{◌≡◌, ◌++◌, flat_map, length, take, ap, ◌∙◌, arith}
-use Rattle.std.proofs.Math.Seq.{take-length}
+use Rattle.std.proofs.Common.{◌++◌, flat_map, ap, ◌∙◌}
+use Rattle.std.proofs.lemmas.List.{take_all}
 use Rattle.eco_cleanup.specs.Nodes.{nodes_at}
 use Rattle.eco_store.specs.Worlds.{world_of}
 use Rattle.eco_cleanup.proofs.Noted.{listed_come}
@@ -10,8 +10,7 @@ returns c =
     let w = world_of c.args.self.now.store.now.entities in
     let slots = c.args.self.now.places in
     let items = c.listed-slot-items.result.now in
-    let at_end : c.loop-slot.slot-index ≡ length items = omega (arith, c.loop-slot-test.false, c.loop-slot.auto.slot-index-end) in
-    let whole = ap (λ n. take n items) at_end ∙ take-length items in
     listed_come w slots c.args.member c.args.pattern items c.args.found.now.items c.loop-slot.found.items
     (rw c.archetypes.ensures at c.listed-slot-items.ensures.listed)
-    (c.loop-slot.invariant ∙ ap (λ ns. c.args.found.now.items ++ flat_map (nodes_at w slots c.args.member) ns) whole)
+    (c.loop-slot.invariant ∙ ap (λ ns. c.args.found.now.items ++ flat_map (nodes_at w slots c.args.member) ns)
+    (take_all c.loop-slot.slot-index items c.loop-slot-test.false))

@@ -1,5 +1,5 @@
-use Rattle.std.proofs.Common.{◌≡◌, ◌||◌, length, take, ap, ◌∙◌, arith}
-use Rattle.std.proofs.Math.Seq.{take-length}
+use Rattle.std.proofs.Common.{◌||◌, ap, ◌∙◌, arith}
+use Rattle.std.proofs.lemmas.List.{take_all}
 use Rattle.std.specs.List.{list_any}
 use Rattle.eco_cleanup.specs.Nodes.{is_one_of, touches}
 use Rattle.eco_store.specs.Worlds.{world_of}
@@ -17,7 +17,5 @@ pub returns : goal.returns
 returns c =
     let w = world_of c.args.self.now.store.now.entities in
     let slots = c.args.self.now.places in
-    let items = c.standing-entity-items.result.now in
-    let at_end : c.loop-entity.entity-index ≡ length items = omega (arith, c.loop-entity-test.false, c.loop-entity.auto.entity-index-end) in
-    let whole = ap (λ n. take n items) at_end ∙ take-length items ∙ c.standing-entity-items.ensures in
-    λ b. c.loop-entity.invariant b ∙ ap (λ es. is_one_of c.args.found.now.items b || list_any (λ e. touches w slots e b) es) whole
+    λ b. c.loop-entity.invariant b ∙ ap (λ es. is_one_of c.args.found.now.items b || list_any (λ e. touches w slots e b) es)
+    (take_all c.loop-entity.entity-index c.standing-entity-items.result.now c.loop-entity-test.false ∙ c.standing-entity-items.ensures)

@@ -1,17 +1,17 @@
-use Rattle.std.proofs.Common.{◌≡◌, ◌∙◌, refl, ap, sym, true, Some, is_some, option_map}
+use Rattle.std.proofs.Common.{◌≡◌, ◌∙◌, refl, ap, sym, true, false, IsTrue, None, Some, is_some, option_map}
 use Rattle.std.proofs.lemmas.Option.{none-some}
 use Rattle.eco_ids.specs.Indices.{Indexed, changed, is_alive}
-use Rattle.eco_ids.specs.Names.{named_entity}
-use Rattle.eco_ids.specs.Renaming.{own_name}
+use Rattle.eco_ids.specs.Renaming.{may_rename, own_name}
 use Rattle.eco_ids.proofs.Results.{err_says}
 use Rattle.eco_entities.specs.Label.{label_text}
 use Rattle.eco_entities.specs.Registration.{Registration, given_name, renamed}
 use Rattle.eco_entities.specs.Registry.{entity_of}
-use Rattle.eco_entities.proofs.NamedEntities.{registry_named_entity}
+use Rattle.eco_entities.proofs.NamedEntities.{registry_named_entity, registry_shown}
 use Rattle.eco_entities.proofs.Owners.{own-renamed}
 use Rattle.eco_entities.proofs.Registers.{keeps_undone, registry_exchange, registry_gain, registry_same}
 use Rattle.eco_entities.proofs.Renaming.{rename_free, rename_may, uncalled}
 use Rattle.eco_entities.proofs.entity_index.EntityIndex.give_name.Goals as goal
+use Rattle.eco_entities.proofs.entity_index.EntityIndex.give_name.Goals.{After-self}
 
 pub invariant_of-self-in-Ok-Some : goal.invariant_of-self-in-Ok-Some
 invariant_of-self-in-Ok-Some c =
@@ -43,23 +43,26 @@ invariant_of-self-in-Err c =
     rw c.in-Err.ensures.err
     (registry_same c.self.invariant (keeps_undone c.args.name.now c.args.entity own.1.free own.1.claimed c.remove-in-Err.ensures) (record { all = λ k. refl }))
 
-pub returns-in_err-own-clause-err : goal.returns-in_err-own-clause-err
-returns-in_err-own-clause-err c =
+-- a name that nobody has may be given
+may : (c : goal.After-self) → entity_of c.self.inside.names c.args.name.now ≡ None
+    → IsTrue (may_rename given_name c.args.self.now c.args.entity false (Some c.args.name.now))
+may c free =
     let e = c.args.entity in
     let name = c.args.name.now in
     let w = c.self.inside.slots in
     let alive : is_alive w e ≡ true = rw c.self.view_is c.requires.alive in
-    let free = c.in_err-own.ensures.err.free in
     let found = registry_named_entity (entity_of c.self.inside.names) w name c.self.invariant in
     let other = uncalled w e name (λ h. none-some e (sym free ∙ c.self.invariant.listed name e h)) in
-    err_says c.from_residual.result (rw (← c.self.view_is) (rename_may w e name alive c.requires.proper other (sym found ∙ free)), c.self.view_is)
+    rw (← c.self.view_is) (rename_may w e name alive c.requires.proper other (sym found ∙ free))
+
+pub returns-in_err-own-clause-err : goal.returns-in_err-own-clause-err
+returns-in_err-own-clause-err c =
+    err_says c.from_residual.result (may (goal.at.returns-in_err-own-clause-err c).After-self c.in_err-own.ensures.err.free, c.self.view_is)
 
 pub returns-in_default-clause-ok : goal.returns-in_default-clause-ok
 returns-in_default-clause-ok c =
     let name = c.args.name.now in
-    let found : entity_of c.self.inside.names name ≡ named_entity given_name c.args.self.now name =
-    registry_named_entity (entity_of c.self.inside.names) c.self.inside.slots name c.self.invariant
-    ∙ ap (λ (v : Indexed Registration). named_entity given_name v name) c.self.view_is in
+    let found = registry_shown (entity_of c.self.inside.names) _ c.args.self.now name c.self.invariant c.self.view_is in
     let taken = rw c.in_default.is at c.in_ok-own.ensures.ok in
     record { borne = ap is_some (sym found) ∙ taken.borne; same = c.self.view_is }
 
@@ -69,9 +72,7 @@ returns-in-Ok-Some-clause-ok c =
     let name = c.args.name.now in
     let v = c.args.self.now in
     let own = rw c.in-Some.is at c.in_ok-own.ensures.ok in
-    let found : entity_of c.self.inside.names name ≡ named_entity given_name v name =
-    registry_named_entity (entity_of c.self.inside.names) c.self.inside.slots name c.self.invariant
-    ∙ ap (λ (w : Indexed Registration). named_entity given_name w name) c.self.view_is in
+    let found = registry_shown (entity_of c.self.inside.names) _ v name c.self.invariant c.self.view_is in
     let new = c.in-Ok-Some.ensures.ok ∙ (ap (λ n. changed c.self.inside.slots e (renamed (Some n))) own.0
     ∙ ap (λ (w : Indexed Registration). changed w e (renamed (Some name))) c.self.view_is) in
     rw new (rename_free v e name c.requires.alive c.requires.proper (sym found ∙ own.1.free))
@@ -82,21 +83,12 @@ returns-in-Ok-None-clause-ok c =
     let name = c.args.name.now in
     let w = c.self.inside.slots in
     let own = rw c.in-Some.is at c.in_ok-own.ensures.ok in
-    let found : entity_of c.self.inside.names name ≡ named_entity given_name c.args.self.now name =
-    registry_named_entity (entity_of c.self.inside.names) c.self.inside.slots name c.self.invariant
-    ∙ ap (λ (v : Indexed Registration). named_entity given_name v name) c.self.view_is in
+    let found = registry_shown (entity_of c.self.inside.names) _ c.args.self.now name c.self.invariant c.self.view_is in
     let new = c.in-Ok-None.ensures.ok ∙ (ap (λ n. changed w e (renamed (Some n))) own.0
     ∙ ap (λ (v : Indexed Registration). changed v e (renamed (Some name))) c.self.view_is) in
     rw new (rename_free c.args.self.now e name c.requires.alive c.requires.proper (sym found ∙ own.1.free))
 
 pub returns-in-Err-clause-err : goal.returns-in-Err-clause-err
 returns-in-Err-clause-err c =
-    let e = c.args.entity in
-    let name = c.args.name.now in
-    let w = c.self.inside.slots in
-    let alive : is_alive w e ≡ true = rw c.self.view_is c.requires.alive in
     let own = rw c.in-Some.is at c.in_ok-own.ensures.ok in
-    let free = own.1.free in
-    let found = registry_named_entity (entity_of c.self.inside.names) w name c.self.invariant in
-    let other = uncalled w e name (λ h. none-some e (sym free ∙ c.self.invariant.listed name e h)) in
-    (rw (← c.self.view_is) (rename_may w e name alive c.requires.proper other (sym found ∙ free)), c.in-Err.ensures.err ∙ c.self.view_is)
+    (may (goal.at.returns-in-Err-clause-err c).After-self own.1.free, c.in-Err.ensures.err ∙ c.self.view_is)

@@ -1,9 +1,8 @@
 use Rattle.std.proofs.Common.{◌≡◌, ◌∙◌, ap, refl, sym, Some, is_some}
 use Rattle.eco_ids.specs.Indices.{Indexed, next_entity, with_new}
-use Rattle.eco_ids.specs.Names.{named_entity}
-use Rattle.eco_entities.specs.Registration.{Registration, given_name, newcomer}
+use Rattle.eco_entities.specs.Registration.{Registration, newcomer}
 use Rattle.eco_entities.specs.Registry.{entity_of}
-use Rattle.eco_entities.proofs.NamedEntities.{registry_named_entity}
+use Rattle.eco_entities.proofs.NamedEntities.{registry_shown}
 use Rattle.eco_entities.proofs.Owners.{own-new, own_of_next}
 use Rattle.eco_entities.proofs.Registers.{keeps_undone, registry_same, registry_gain}
 use Rattle.eco_entities.proofs.Renaming.{fit_free}
@@ -29,17 +28,13 @@ invariant_of-self-in-Err c =
 pub returns-in_err-own-clause-err : goal.returns-in_err-own-clause-err
 returns-in_err-own-clause-err c =
     let name = c.args.text.now in
-    let found : entity_of c.self.inside.names name ≡ named_entity given_name c.args.self.now name =
-    registry_named_entity (entity_of c.self.inside.names) c.self.inside.slots name c.self.invariant
-    ∙ ap (λ (v : Indexed Registration). named_entity given_name v name) c.self.view_is in
+    let found = registry_shown (entity_of c.self.inside.names) _ c.args.self.now name c.self.invariant c.self.view_is in
     err_says c.from_residual.result (fit_free c.args.self.now name c.requires.proper (sym found ∙ c.in_err-own.ensures.err.free), c.self.view_is)
 
 pub returns-in_default-clause-ok : goal.returns-in_default-clause-ok
 returns-in_default-clause-ok c =
     let name = c.args.text.now in
-    let found : entity_of c.self.inside.names name ≡ named_entity given_name c.args.self.now name =
-    registry_named_entity (entity_of c.self.inside.names) c.self.inside.slots name c.self.invariant
-    ∙ ap (λ (v : Indexed Registration). named_entity given_name v name) c.self.view_is in
+    let found = registry_shown (entity_of c.self.inside.names) _ c.args.self.now name c.self.invariant c.self.view_is in
     let taken = rw c.in_default.is at c.in_ok-own.ensures.ok in
     record { borne = ap is_some (sym found) ∙ taken.borne; same = c.self.view_is }
 
@@ -48,9 +43,7 @@ returns-in-Ok-clause-ok c =
     let e = c.args.entity in
     let name = c.args.text.now in
     let own = rw c.in-Some.is at c.in_ok-own.ensures.ok in
-    let found : entity_of c.self.inside.names name ≡ named_entity given_name c.args.self.now name =
-    registry_named_entity (entity_of c.self.inside.names) c.self.inside.slots name c.self.invariant
-    ∙ ap (λ (v : Indexed Registration). named_entity given_name v name) c.self.view_is in (
+    let found = registry_shown (entity_of c.self.inside.names) _ c.args.self.now name c.self.invariant c.self.view_is in (
       fit_free c.args.self.now name c.requires.proper (sym found ∙ own.1.free),
       c.in-Ok.ensures.ok ∙ (ap (λ n. with_new c.self.inside.slots e (newcomer (Some n) c.args.arity)) own.0
           ∙ ap (λ (v : Indexed Registration). with_new v e (newcomer (Some name) c.args.arity)) c.self.view_is),
@@ -60,7 +53,5 @@ pub returns-in-Err-clause-err : goal.returns-in-Err-clause-err
 returns-in-Err-clause-err c =
     let name = c.args.text.now in
     let own = rw c.in-Some.is at c.in_ok-own.ensures.ok in
-    let found : entity_of c.self.inside.names name ≡ named_entity given_name c.args.self.now name =
-    registry_named_entity (entity_of c.self.inside.names) c.self.inside.slots name c.self.invariant
-    ∙ ap (λ (v : Indexed Registration). named_entity given_name v name) c.self.view_is in
+    let found = registry_shown (entity_of c.self.inside.names) _ c.args.self.now name c.self.invariant c.self.view_is in
     (fit_free c.args.self.now name c.requires.proper (sym found ∙ own.1.free), c.in-Err.ensures.err ∙ c.self.view_is)

@@ -1,5 +1,5 @@
 use Rattle.std.proofs.lemmas.Grind.{common_steps}
-use Rattle.std.proofs.Common.{◌≡◌, sym, ap, ◌∙◌, slice_get, arith}
+use Rattle.std.proofs.Common.{sym, ap, ◌∙◌, arith}
 use Rattle.eco_entities.specs.Labels.{label_of}
 use Rattle.eco_entities.specs.Slots.{next_generation}
 use Rattle.eco_entities.proofs.Shown.{free_shown, state_shown, used_shows_none}
@@ -7,21 +7,17 @@ use Rattle.eco_entities.proofs.slots.Slots.next_generation.Goals as goal
 
 pub returns-in-Some : goal.returns-in-Some
 returns-in-Some c =
-    let label = label_of c.self.inside.labels in
-    let slots = c.self.inside.slots.items in
-    let is : c.slot_at.result ≡ slice_get slots c.args.index = rw c.as_slice.ensures.value at c.slot_at.ensures in
+    let is = rw c.as_slice.ensures.value at c.slot_at.ensures in
     c.generation.ensures
     ∙ sym (ap next_generation
     (free_shown c.self.inside c.args.self.now c.self.view_is c.args.index c.in-Some.slot (sym c.in-Some.is ∙ is)
-    (sym (c.if-is_free.ensures (label c.args.index)))))
+    (sym (c.if-is_free.ensures (label_of c.self.inside.labels c.args.index)))))
 
 pub returns-in_default : goal.returns-in_default
 returns-in_default c =
-    let label = label_of c.self.inside.labels in
-    let slots = c.self.inside.slots.items in
-    let is : c.slot_at.result ≡ slice_get slots c.args.index = rw c.as_slice.ensures.value at c.slot_at.ensures in
+    let is = rw c.as_slice.ensures.value at c.slot_at.ensures in
     sym (used_shows_none c.self.inside c.args.self.now c.self.view_is c.args.index c.in-Some.slot (sym c.in-Some.is ∙ is)
-    (sym (c.if-is_free.ensures (label c.args.index))))
+    (sym (c.if-is_free.ensures (label_of c.self.inside.labels c.args.index))))
 
 pub returns-in_default-2 : goal.returns-in_default-2
 returns-in_default-2 c = grind (arith, common_steps, state_shown)

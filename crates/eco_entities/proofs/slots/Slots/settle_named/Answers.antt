@@ -3,29 +3,30 @@ use Rattle.eco_ids.specs.Indices.{Living}
 use Rattle.eco_entities.specs.Label.{label_text}
 use Rattle.eco_entities.specs.Labels.{label_of}
 use Rattle.eco_entities.specs.Registration.{newcomer}
-use Rattle.eco_entities.proofs.Marks.{next_slot, next_unlabelled, slot_settled}
+use Rattle.eco_ids.specs.Indices.{with_new}
+use Rattle.eco_entities.proofs.Marks.{ShowsMarked, next_slot, next_unlabelled, slot_settled}
 use Rattle.eco_entities.proofs.slots.Slots.settle_named.Goals as goal
+use Rattle.eco_entities.proofs.slots.Slots.settle_named.Goals.{In-Ok}
 
 pub put-requires : goal.put-requires
 put-requires c = next_slot c.self.inside c.args.self.now c.self.invariant c.self.view_is c.args.entity c.requires
 
-pub invariant_of-self-in-Ok : goal.invariant_of-self-in-Ok
-invariant_of-self-in-Ok c =
+-- it lives where the next entity does, with its name
+settled : (c : goal.In-Ok) → ShowsMarked c.self.inside.limit (label_of c.insert.new.self) c.put.new.slots.items c.put.new.free
+    (with_new c.args.self.now c.args.entity (newcomer (Some (label_text c.args.name)) c.args.arity))
+settled c =
     let e = c.args.entity in
     let label' = label_of c.insert.new.self in
-    (slot_settled c.self.inside c.args.self.now c.self.invariant c.self.view_is e label' c.put.new.slots.items c.put.new.free c.newcomer-slot.result
+    slot_settled c.self.inside c.args.self.now c.self.invariant c.self.view_is e label' c.put.new.slots.items c.put.new.free c.newcomer-slot.result
     (newcomer (Some (label_text c.args.name)) c.args.arity) c.in_ok-insert.ensures.ok.others c.requires (omega arith)
     (c.newcomer-slot.ensures (label' e.index) ∙ ap (λ o. Living e.generation (newcomer o c.args.arity)) c.in_ok-insert.ensures.ok.here)
-    c.in-Ok.ensures.slots c.in-Ok.ensures.free).0
+    c.in-Ok.ensures.slots c.in-Ok.ensures.free
+
+pub invariant_of-self-in-Ok : goal.invariant_of-self-in-Ok
+invariant_of-self-in-Ok c = (settled (goal.at.invariant_of-self-in-Ok c).In-Ok).0
 
 pub returns-in-Ok-clause-ok : goal.returns-in-Ok-clause-ok
-returns-in-Ok-clause-ok c =
-    let e = c.args.entity in
-    let label' = label_of c.insert.new.self in
-    (slot_settled c.self.inside c.args.self.now c.self.invariant c.self.view_is e label' c.put.new.slots.items c.put.new.free c.newcomer-slot.result
-    (newcomer (Some (label_text c.args.name)) c.args.arity) c.in_ok-insert.ensures.ok.others c.requires (omega arith)
-    (c.newcomer-slot.ensures (label' e.index) ∙ ap (λ o. Living e.generation (newcomer o c.args.arity)) c.in_ok-insert.ensures.ok.here)
-    c.in-Ok.ensures.slots c.in-Ok.ensures.free).1
+returns-in-Ok-clause-ok c = (settled (goal.at.returns-in-Ok-clause-ok c).In-Ok).1
 
 pub invariant_of-self-in-Err : goal.invariant_of-self-in-Err
 invariant_of-self-in-Err c =

@@ -1,10 +1,12 @@
 use Rattle.std.proofs.lemmas.Grind.{common_steps}
-use Rattle.std.proofs.Common.{◌<◌, cond, length, ap, ◌∙◌, None, arith}
+use Rattle.std.proofs.Common.{cond, set, ap, ◌∙◌, None, arith}
 use Rattle.eco_entities.specs.Labels.{label_of}
 use Rattle.eco_entities.specs.Registration.{renamed}
-use Rattle.eco_entities.proofs.Marks.{alive_within, slot_changed, unnamed_same}
+use Rattle.eco_ids.specs.Indices.{changed}
+use Rattle.eco_entities.proofs.Marks.{ShowsMarked, alive_within, slot_changed, unnamed_same}
 use Rattle.eco_entities.proofs.Shown.{name_read}
 use Rattle.eco_entities.proofs.slots.Slots.take_name.Goals as goal
+use Rattle.eco_entities.proofs.slots.Slots.take_name.Goals.{After-remove}
 
 pub index-requires : goal.index-requires
 index-requires c = grind (arith, common_steps, alive_within)
@@ -18,35 +20,30 @@ returns-then-not-is_named-clause-renamed c = grind (arith, common_steps, unnamed
 pub returns-then-not-is_named-clause-was : goal.returns-then-not-is_named-clause-was
 returns-then-not-is_named-clause-was c =
     let label = label_of c.self.inside.labels in
-    let slots = c.self.inside.slots.items in
     let e = c.args.entity in
-    let within : e.index < length slots = alive_within c.self.inside c.args.self.now c.self.invariant c.self.view_is e c.requires in
+    let within = alive_within c.self.inside c.args.self.now c.self.invariant c.self.view_is e c.requires in
     ap (λ b. cond b (label e.index) None) c.if-not-is_named.ensures
     ∙ name_read c.self.inside c.args.self.now c.self.view_is e c.index.result.now c.requires within c.index.ensures
 
-pub invariant_of-self : goal.invariant_of-self
-invariant_of-self c =
-    let label = label_of c.self.inside.labels in
+-- the slot without its name
+renamed_there : (c : goal.After-remove) → ShowsMarked c.self.inside.limit (label_of c.remove.new.self)
+    (set c.self.inside.slots.items c.args.entity.index c.set_named.new.self) c.self.inside.free (changed c.args.self.now c.args.entity (renamed None))
+renamed_there c =
     let e = c.args.entity in
     let label' = label_of c.remove.new.self in
-    (slot_changed c.self.inside c.args.self.now c.self.invariant c.self.view_is label' e c.index_mut.result.now c.set_named.new.self
-    (renamed None) c.remove.ensures.removed.others
-    c.requires c.index_mut.ensures.value (c.set_named.ensures (label e.index) (label' e.index))).0
+    slot_changed c.self.inside c.args.self.now c.self.invariant c.self.view_is label' e c.index_mut.result.now c.set_named.new.self (renamed None)
+    c.remove.ensures.removed.others c.requires c.index_mut.ensures.value (c.set_named.ensures (label_of c.self.inside.labels e.index) (label' e.index))
+
+pub invariant_of-self : goal.invariant_of-self
+invariant_of-self c = (renamed_there (goal.at.invariant_of-self c).After-remove).0
 
 pub returns-clause-renamed : goal.returns-clause-renamed
-returns-clause-renamed c =
-    let label = label_of c.self.inside.labels in
-    let e = c.args.entity in
-    let label' = label_of c.remove.new.self in
-    (slot_changed c.self.inside c.args.self.now c.self.invariant c.self.view_is label' e c.index_mut.result.now c.set_named.new.self
-    (renamed None) c.remove.ensures.removed.others
-    c.requires c.index_mut.ensures.value (c.set_named.ensures (label e.index) (label' e.index))).1
+returns-clause-renamed c = (renamed_there (goal.at.returns-clause-renamed c).After-remove).1
 
 pub returns-clause-was : goal.returns-clause-was
 returns-clause-was c =
     let label = label_of c.self.inside.labels in
-    let slots = c.self.inside.slots.items in
     let e = c.args.entity in
-    let within : e.index < length slots = alive_within c.self.inside c.args.self.now c.self.invariant c.self.view_is e c.requires in
+    let within = alive_within c.self.inside c.args.self.now c.self.invariant c.self.view_is e c.requires in
     c.remove.ensures.was ∙ (ap (λ b. cond b (label e.index) None) c.if-not-is_named.ensures
     ∙ name_read c.self.inside c.args.self.now c.self.view_is e c.index.result.now c.requires within c.index.ensures)

@@ -1,16 +1,9 @@
 use Rattle.std.specs.Option.{option_copied}
-use Rattle.eco_ids.specs.Births.{Makes, bare}
+use Rattle.eco_ids.specs.Births.{Creates, Makes, bare}
 use Rattle.eco_store.specs.Store.{record_name}
 use Rattle.eco_world.specs.Worlds.{asked_by}
-use Rattle.eco_world.proofs.Steps.{lawful_lifted, lifted}
+use Rattle.eco_world.proofs.Steps.{lifted, met_lawful}
 use Rattle.eco_world.proofs.world.World.create.Goals as goal
-
-pub invariant_of-self : goal.invariant_of-self
-invariant_of-self c =
-    let qs = asked_by c.self.inside.queries.items in
-    lawful_lifted c.self.inside.edition qs (λ v. Makes record_name v
-    (bare (option_copied c.args.name))) _ c.self.inside.store.entities c.create.new.self.entities c.create.result c.self.invariant
-    (c.steps_keep_lawful.ensures.create (option_copied c.args.name) _ _ _ c.self.invariant) (rw c.empty-none.ensures at c.create.ensures.step)
 
 pub returns : goal.returns
 returns c =
@@ -19,3 +12,8 @@ returns c =
     (lifted c.self.inside.edition qs
     (λ v. Makes record_name v (bare (option_copied c.args.name))) _ c.self.inside.store.entities c.create.new.self.entities c.create.result
     (rw c.empty-none.ensures at c.create.ensures.step))
+
+pub invariant_of-self : goal.invariant_of-self
+invariant_of-self c =
+    met_lawful (Creates c.args.self.now (option_copied c.args.name)) _ _ c.args.self.now _ _ c.self.view_is c.self.invariant
+    (c.steps_keep_lawful.ensures.create (option_copied c.args.name) _ _ _) (returns c)

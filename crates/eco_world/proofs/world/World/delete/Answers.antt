@@ -1,14 +1,15 @@
-use Rattle.std.proofs.Common.{◌≡◌, ◌∷◌, [], IsTrue, Ok, sym, ap, ◌∙◌}
+use Rattle.std.proofs.Common.{◌≡◌, ◌∷◌, [], IsTrue, Ok, sym, ap, ◌∙◌, subst}
 use Rattle.std.proofs.lemmas.Result.{err_from_is_err_and}
 use Rattle.eco_ids.specs.Builtin.{is_builtin}
 use Rattle.eco_ids.specs.Cleanup.{Deletes}
-use Rattle.eco_ids.specs.Delete.{DeletesOne, may_delete}
+use Rattle.eco_ids.specs.Delete.{DeletesOne}
+use Rattle.eco_ids.specs.Lawful.{IsLawful}
 use Rattle.eco_ids.specs.Order.{entity_cmp, has_item}
 use Rattle.eco_ids.specs.World.{WorldState, is_alive}
 use Rattle.eco_world.specs.Worlds.{asked_by, world_with}
 use Rattle.eco_world.proofs.Queried.{ends_with}
-use Rattle.eco_world.proofs.Deleting.{met_lawful, one_deleted}
-use Rattle.eco_world.proofs.Steps.{refused}
+use Rattle.eco_world.proofs.Deleting.{one_deleted}
+use Rattle.eco_world.proofs.Steps.{met_lawful, refused}
 use Rattle.eco_world.proofs.Unheld.{is_named, taken_out}
 use Rattle.eco_world.proofs.world.World.delete.Goals as goal
 
@@ -16,19 +17,6 @@ pub returns-in_err-check_actor : goal.returns-in_err-check_actor
 returns-in_err-check_actor c =
     let p = err_from_is_err_and c.from_residual.result c.from_residual.ensures.1 in
     rw (p.1, p.2) (refused c.args.self.now c.args.entity _ _ c.in_err-check_actor.ensures.err [] (Deletes c.args.self.now (λ x. x ≡ c.args.entity)) _)
-
-pub invariant_of-self : goal.invariant_of-self
-invariant_of-self c =
-    let v = c.self.inside.store.entities in
-    let new = c.delete.new.store.entities in
-    let qs = asked_by c.self.inside.queries.items in
-    let e = c.args.entity in
-    met_lawful (λ x. DeletesOne x e) (λ x. may_delete x e) (world_with c.self.inside.edition v qs) (world_with c.self.inside.edition new qs) c.delete.result
-    (c.steps_keep_lawful.ensures.delete e) c.self.invariant
-    (one_deleted (world_with c.self.inside.edition v qs) (world_with c.self.inside.edition new qs) e c.delete.result
-    (ap (λ (x : WorldState). is_alive x e) c.self.view_is ∙ c.in_ok-check_actor.ensures.ok.0)
-    (ap (λ (x : WorldState). is_builtin x e) c.self.view_is ∙ c.in_ok-check_actor.ensures.ok.1)
-    (ends_with c.self.inside.edition v new qs c.delete.result (λ x. IsTrue (has_item entity_cmp (e ∷ []) x)) c.delete.ensures))
 
 pub returns-then-is_named : goal.returns-then-is_named
 returns-then-is_named c =
@@ -42,17 +30,10 @@ returns-then-is_named c =
     (ap (λ (x : WorldState). is_builtin x e) c.self.view_is ∙ c.in_ok-check_actor.ensures.ok.1)
     (ends_with c.self.inside.edition v new qs c.delete.result (λ x. IsTrue (has_item entity_cmp (e ∷ []) x)) c.delete.ensures))
 
-pub invariant_of-self-2 : goal.invariant_of-self-2
-invariant_of-self-2 c =
-    let v = c.self.inside.store.entities in
-    let new = c.take_out.new.self.entities in
-    let qs = asked_by c.self.inside.queries.items in
-    let e = c.args.entity in
-    c.steps_keep_lawful.ensures.delete e (world_with c.self.inside.edition v qs) (Ok tt) (world_with c.self.inside.edition new qs) c.self.invariant
-    (taken_out c.self.inside.edition v new qs e
-    (ap (λ (x : WorldState). is_alive x e) c.self.view_is ∙ c.in_ok-check_actor.ensures.ok.0)
-    (ap (λ (x : WorldState). is_builtin x e) c.self.view_is ∙ c.in_ok-check_actor.ensures.ok.1)
-    (ap (λ (x : WorldState). is_named x e) c.self.view_is ∙ sym c.is_named.ensures ∙ c.if-is_named.false) c.take_out.ensures.entities)
+pub invariant_of-self : goal.invariant_of-self
+invariant_of-self c =
+    met_lawful (DeletesOne c.args.self.now c.args.entity) _ _ c.args.self.now _ _ c.self.view_is c.self.invariant
+    (c.steps_keep_lawful.ensures.delete c.args.entity _ _ _) (returns-then-is_named c)
 
 pub returns : goal.returns
 returns c =
@@ -64,3 +45,7 @@ returns c =
     (ap (λ (x : WorldState). is_alive x e) c.self.view_is ∙ c.in_ok-check_actor.ensures.ok.0)
     (ap (λ (x : WorldState). is_builtin x e) c.self.view_is ∙ c.in_ok-check_actor.ensures.ok.1)
     (ap (λ (x : WorldState). is_named x e) c.self.view_is ∙ sym c.is_named.ensures ∙ c.if-is_named.false) c.take_out.ensures.entities)
+
+pub invariant_of-self-2 : goal.invariant_of-self-2
+invariant_of-self-2 c =
+    c.steps_keep_lawful.ensures.delete c.args.entity c.args.self.now (Ok tt) _ (subst IsLawful c.self.view_is c.self.invariant) (returns c)

@@ -7,5 +7,5 @@ pub invariant_of-self : goal.invariant_of-self
 invariant_of-self c =
     let qs = asked_by c.self.inside.queries.items in
     by_result (λ v. IsLawful
-    (world_with c.self.inside.edition v qs)) c.exchange.result c.self.inside.store.entities _ _ c.exchange.ensures.ok c.exchange.ensures.err
+    (world_with c.self.inside.edition v qs)) (λ v. v) c.exchange.result c.self.inside.store.entities _ _ c.exchange.ensures.ok c.exchange.ensures.err
     (rw (← c.self.view_is) at c.requires.lawful) c.self.invariant

@@ -4,7 +4,7 @@ use Rattle.eco_ids.specs.Step.{changed, with_mirror}
 use Rattle.eco_store.specs.Store.{with_type}
 use Rattle.eco_traits.specs.Target.{type_meant}
 use Rattle.eco_world.specs.Types.{type_of}
-use Rattle.eco_world.proofs.Extending.{same_ok_state}
+use Rattle.eco_ids.proofs.Results.{on_ok}
 use Rattle.eco_world.proofs.MirrorSteps.{come_both}
 use Rattle.eco_world.proofs.world.World.gain_both.Goals as goal
 
@@ -21,6 +21,5 @@ returns-in-With-clause-ok c =
     let w = c.args.self.now in
     let e = c.args.entity in
     let m = c.args.mirror in
-    same_ok_state c.step_both.result c.step_both.new.self _ _
-    (come_both w c.is_lawful.ensures e c.args.id m c.requires.mirror c.requires.other c.requires.absent
+    on_ok c.step_both.result (λ is. is ∙ come_both w c.is_lawful.ensures e c.args.id m c.requires.mirror c.requires.other c.requires.absent
     ∙ ap (λ t. with_mirror (changed w e (with_type (type_meant (type_of w e) c.args.id t))) (Some m)) (sym c.in-With.is)) c.step_both.ensures.ok

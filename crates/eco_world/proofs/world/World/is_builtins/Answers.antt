@@ -1,28 +1,29 @@
 use Rattle.std.proofs.Common.{◌≡◌, ◌+◌, ◌-◌, ◌<◌, ◌||◌, map, sym, ap, ◌∙◌, arith, subst}
 use Rattle.std.specs.List.{list_any, range_with_len}
 use Rattle.eco_ids.specs.declared.entity.Entity.{Entity}
+use Rattle.eco_ids.specs.Builtin.{is_builtins}
 use Rattle.eco_ids.specs.Edition.{builtin_count}
 use Rattle.eco_ids.specs.World.{WorldState, has}
 use Rattle.eco_world.proofs.Removals.{first_of_rest}
 use Rattle.eco_world.proofs.world.World.is_builtins.Goals as goal
+use Rattle.eco_world.proofs.world.World.is_builtins.Goals.{After-has}
+
+-- one index more
+next : (c : goal.After-has) → is_builtins c.args.self.now c.args.id ≡ (c.has.result || list_any (λ (e : Entity). has c.args.self.now e c.args.id)
+    (map (λ k. record { index = k; generation = 0 })
+    (range_with_len (c.loop-index.index + 1) (builtin_count c.args.self.now.edition - (c.loop-index.index + 1)))))
+next c =
+    let n = builtin_count c.args.self.now.edition in
+    let count = c.builtin_count-index-end.ensures ∙ ap (λ (x : WorldState). builtin_count x.edition) c.self.view_is in
+    rw c.has.ensures
+    (c.loop-index.invariant
+    ∙ first_of_rest (λ (e : Entity). has c.args.self.now e c.args.id) c.loop-index.index n (subst (λ m. c.loop-index.index < m) count c.loop-index-test.true))
 
 pub returns-then-has : goal.returns-then-has
-returns-then-has c =
-    let i = c.loop-index.index in
-    let n = builtin_count c.args.self.now.edition in
-    let test = λ (e : Entity). has c.args.self.now e c.args.id in
-    let count = c.builtin_count-index-end.ensures ∙ ap (λ (x : WorldState). builtin_count x.edition) c.self.view_is in
-    sym (c.loop-index.invariant ∙ first_of_rest test i n (subst (λ m. i < m) count c.loop-index-test.true)
-    ∙ ap (λ b. b || list_any test (map (λ k. record { index = k; generation = 0 }) (range_with_len (i + 1) (n - (i + 1))))) (sym c.has.ensures ∙ c.if-has.true))
+returns-then-has c = sym (rw c.if-has.true at (next (goal.at.returns-then-has c).After-has))
 
 pub loop-index-preserved : goal.loop-index-preserved
-loop-index-preserved c =
-    let i = c.loop-index.index in
-    let n = builtin_count c.args.self.now.edition in
-    let test = λ (e : Entity). has c.args.self.now e c.args.id in
-    let count = c.builtin_count-index-end.ensures ∙ ap (λ (x : WorldState). builtin_count x.edition) c.self.view_is in
-    c.loop-index.invariant ∙ first_of_rest test i n (subst (λ m. i < m) count c.loop-index-test.true)
-    ∙ ap (λ b. b || list_any test (map (λ k. record { index = k; generation = 0 }) (range_with_len (i + 1) (n - (i + 1))))) (sym c.has.ensures ∙ c.if-has.false)
+loop-index-preserved c = rw c.if-has.false at (next (goal.at.loop-index-preserved c).After-has)
 
 pub returns : goal.returns
 returns c =

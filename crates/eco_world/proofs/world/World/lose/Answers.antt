@@ -1,24 +1,12 @@
-use Rattle.std.proofs.Common.{sym, subst, ◌∙◌}
+use Rattle.std.proofs.Common.{ap, ◌∙◌}
 use Rattle.eco_ids.specs.Lawful.{IsLawful}
 use Rattle.eco_ids.specs.Mirrors.{goes_too}
-use Rattle.eco_store.specs.Moving.{after_moves}
 use Rattle.eco_world.specs.Losses.{takes}
 use Rattle.eco_world.specs.Worlds.{asked_by, world_with}
+use Rattle.eco_ids.proofs.Results.{on_ok}
 use Rattle.eco_world.proofs.Changes.{by_result}
-use Rattle.eco_world.proofs.Mirroring.{lost_all, made}
+use Rattle.eco_world.proofs.Mirroring.{lost_all}
 use Rattle.eco_world.proofs.world.World.lose.Goals as goal
-
-pub invariant_of-self : goal.invariant_of-self
-invariant_of-self c =
-    let edition = c.self.inside.edition in
-    let v = c.self.inside.store.entities in
-    let qs = asked_by c.self.inside.queries.items in
-    let ms = c.deref.result.now in
-    by_result (λ x. IsLawful (world_with edition x qs)) c.retype_all.result v c.retype_all.new.self.entities (after_moves v ms)
-    c.retype_all.ensures.ok c.retype_all.ensures.err
-    (subst IsLawful (sym (lost_all edition v qs c.args.self.now c.is_lawful.ensures c.self.view_is ms (goes_too c.args.self.now (takes c.args.loss))
-    c.args.losers.now (c.deref.ensures.value ∙ c.in_ok-moves.ensures) c.requires.losers)) c.requires.lawful)
-    c.self.invariant
 
 pub returns-clause-ok : goal.returns-clause-ok
 returns-clause-ok c =
@@ -26,7 +14,12 @@ returns-clause-ok c =
     let v = c.self.inside.store.entities in
     let qs = asked_by c.self.inside.queries.items in
     let ms = c.deref.result.now in
-    made (λ x. world_with edition x qs) c.retype_all.result c.retype_all.new.self.entities (after_moves v ms) _
-    (lost_all edition v qs c.args.self.now c.is_lawful.ensures c.self.view_is ms (goes_too c.args.self.now (takes c.args.loss))
+    on_ok c.retype_all.result (λ is. ap (λ x. world_with edition x qs) is
+    ∙ lost_all edition v qs c.args.self.now c.is_lawful.ensures c.self.view_is ms (goes_too c.args.self.now (takes c.args.loss))
     c.args.losers.now (c.deref.ensures.value ∙ c.in_ok-moves.ensures) c.requires.losers)
     c.retype_all.ensures.ok
+
+pub invariant_of-self : goal.invariant_of-self
+invariant_of-self c =
+    by_result IsLawful (λ x. world_with c.self.inside.edition x (asked_by c.self.inside.queries.items)) c.retype_all.result c.self.inside.store.entities _ _
+    (returns-clause-ok c) c.retype_all.ensures.err c.requires.lawful c.self.invariant

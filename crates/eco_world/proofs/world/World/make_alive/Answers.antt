@@ -1,18 +1,9 @@
 use Rattle.std.proofs.Common.{None}
-use Rattle.eco_ids.specs.Births.{MakesAliveWith, bare}
+use Rattle.eco_ids.specs.Births.{MakesAlive, MakesAliveWith, bare}
 use Rattle.eco_ids.specs.Indices.{is_free_at}
 use Rattle.eco_world.specs.Worlds.{asked_by}
-use Rattle.eco_world.proofs.Steps.{lawful_lifted, lifted}
+use Rattle.eco_world.proofs.Steps.{lifted, met_lawful}
 use Rattle.eco_world.proofs.world.World.make_alive.Goals as goal
-
-pub invariant_of-self : goal.invariant_of-self
-invariant_of-self c =
-    let qs = asked_by c.self.inside.queries.items in
-    let v = c.self.inside.store.entities in
-    let e = c.args.entity in
-    lawful_lifted c.self.inside.edition qs (λ x. MakesAliveWith x e (bare None))
-    (is_free_at v e) v c.make_alive.new.self.entities c.make_alive.result c.self.invariant
-    (c.steps_keep_lawful.ensures.make_alive e _ _ _ c.self.invariant) c.make_alive.ensures.step
 
 pub returns : goal.returns
 returns c =
@@ -22,3 +13,8 @@ returns c =
     rw (← c.self.view_is)
     (lifted c.self.inside.edition qs (λ x. MakesAliveWith x e (bare None))
     (is_free_at v e) v c.make_alive.new.self.entities c.make_alive.result c.make_alive.ensures.step)
+
+pub invariant_of-self : goal.invariant_of-self
+invariant_of-self c =
+    met_lawful (MakesAlive c.args.self.now c.args.entity) _ _ c.args.self.now _ _ c.self.view_is c.self.invariant
+    (c.steps_keep_lawful.ensures.make_alive c.args.entity _ _ _) (returns c)

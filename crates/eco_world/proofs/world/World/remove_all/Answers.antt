@@ -1,6 +1,6 @@
 use Rattle.std.proofs.Common.{Ok, refl, sym, ◌∙◌}
 use Rattle.eco_ids.specs.Order.{id_eq}
-use Rattle.eco_world.specs.Worlds.{asked_by, world_with}
+use Rattle.eco_world.specs.Worlds.{asked_by}
 use Rattle.eco_world.proofs.Asking.{none_has}
 use Rattle.eco_world.proofs.Losing.{nowhere_taken}
 use Rattle.eco_world.proofs.Removals.{nobody_loses, removed_all, taken_lawful}
@@ -21,19 +21,12 @@ remove_all_mirrored-requires-clause-lawful c =
     taken_lawful c.args.self.now c.args.id c.is_lawful.ensures (c.steps_keep_lawful.ensures.remove_all c.args.id)
     (sym c.is_builtins.ensures ∙ c.if-is_builtins.false)
 
-pub invariant_of-self-2 : goal.invariant_of-self-2
-invariant_of-self-2 c =
-    let w = c.args.self.now in
-    let qs = asked_by c.self.inside.queries.items in
-    let new = c.carry_out.new.store.entities in
-    c.steps_keep_lawful.ensures.remove_all c.args.id w (Ok tt) (world_with c.self.inside.edition new qs) c.is_lawful.ensures
-    (removed_all c.self.inside.edition c.self.inside.store.entities new qs w c.args.id c.in_ok-changes.changes.items c.self.view_is
-    (sym c.symmetric_target.ensures ∙ c.in_default.is) c.in_ok-changes.ensures
-    (rw c.deref.ensures.value at c.in_ok-carry_out.ensures.ok) (sym c.is_builtins.ensures ∙ c.if-is_builtins.false))
-
 pub returns : goal.returns
 returns c =
     let qs = asked_by c.self.inside.queries.items in
     removed_all c.self.inside.edition c.self.inside.store.entities c.carry_out.new.store.entities qs c.args.self.now c.args.id
     c.in_ok-changes.changes.items c.self.view_is (sym c.symmetric_target.ensures ∙ c.in_default.is)
     c.in_ok-changes.ensures (rw c.deref.ensures.value at c.in_ok-carry_out.ensures.ok) (sym c.is_builtins.ensures ∙ c.if-is_builtins.false)
+
+pub invariant_of-self-2 : goal.invariant_of-self-2
+invariant_of-self-2 c = c.steps_keep_lawful.ensures.remove_all c.args.id c.args.self.now (Ok tt) _ c.is_lawful.ensures (returns c)

@@ -1,30 +1,13 @@
-use Rattle.std.proofs.Common.{◌∷◌, [], sym, subst}
+use Rattle.std.proofs.Common.{◌∷◌, [], ap, ◌∙◌}
 use Rattle.eco_ids.specs.Lawful.{IsLawful}
 use Rattle.eco_store.specs.declared.moving.Move.{Move}
-use Rattle.eco_store.specs.Moving.{after_moves}
 use Rattle.eco_traits.specs.Target.{type_meant}
 use Rattle.eco_world.specs.Types.{type_of}
 use Rattle.eco_world.specs.Worlds.{asked_by, world_with}
+use Rattle.eco_ids.proofs.Results.{on_ok}
 use Rattle.eco_world.proofs.Changes.{by_result}
-use Rattle.eco_world.proofs.Mirroring.{both_moved, apart, made}
+use Rattle.eco_world.proofs.Mirroring.{both_moved, apart}
 use Rattle.eco_world.proofs.world.World.retype_both.Goals as goal
-
-pub invariant_of-self : goal.invariant_of-self
-invariant_of-self c =
-    let edition = c.self.inside.edition in
-    let v = c.self.inside.store.entities in
-    let qs = asked_by c.self.inside.queries.items in
-    let w = c.args.self.now in
-    let e = c.args.entity in
-    let m = c.args.mirror in
-    let first : Move = record { entity = e; type_list = c.in_ok-ids.ids } in
-    let second : Move = record { entity = m.0; type_list = c.in_ok-theirs.theirs } in
-    by_result (λ x. IsLawful (world_with edition x qs)) c.retype_all.result v c.retype_all.new.self.entities (after_moves v (first ∷ second ∷ []))
-    c.retype_all.ensures.ok c.retype_all.ensures.err
-    (subst IsLawful (sym (both_moved edition v qs w c.is_lawful.ensures c.self.view_is (first ∷ second ∷ []) e
-    (type_meant (type_of w e) c.args.id c.args.target) m (apart m.0 e c.requires.other)
-    (λ t. record { entity = e; type_list = c.in_ok-ids.ensures t } ∷ record { entity = m.0; type_list = c.in_ok-theirs.ensures t } ∷ []))) c.requires.lawful)
-    c.self.invariant
 
 pub returns-clause-ok : goal.returns-clause-ok
 returns-clause-ok c =
@@ -36,8 +19,13 @@ returns-clause-ok c =
     let m = c.args.mirror in
     let first : Move = record { entity = e; type_list = c.in_ok-ids.ids } in
     let second : Move = record { entity = m.0; type_list = c.in_ok-theirs.theirs } in
-    made (λ x. world_with edition x qs) c.retype_all.result c.retype_all.new.self.entities (after_moves v (first ∷ second ∷ [])) _
-    (both_moved edition v qs w c.is_lawful.ensures c.self.view_is (first ∷ second ∷ []) e
+    on_ok c.retype_all.result (λ is. ap (λ x. world_with edition x qs) is
+    ∙ both_moved edition v qs w c.is_lawful.ensures c.self.view_is (first ∷ second ∷ []) e
     (type_meant (type_of w e) c.args.id c.args.target) m (apart m.0 e c.requires.other)
     (λ t. record { entity = e; type_list = c.in_ok-ids.ensures t } ∷ record { entity = m.0; type_list = c.in_ok-theirs.ensures t } ∷ []))
     c.retype_all.ensures.ok
+
+pub invariant_of-self : goal.invariant_of-self
+invariant_of-self c =
+    by_result IsLawful (λ x. world_with c.self.inside.edition x (asked_by c.self.inside.queries.items)) c.retype_all.result c.self.inside.store.entities _ _
+    (returns-clause-ok c) c.retype_all.ensures.err c.requires.lawful c.self.invariant

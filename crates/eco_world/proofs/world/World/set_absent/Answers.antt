@@ -1,9 +1,10 @@
 use Rattle.std.proofs.Common.{◌≡◌, sym, ◌∙◌, Ok, Err, MatchBool, subst}
 use Rattle.std.proofs.lemmas.Result.{err_from_is_err_and}
 use Rattle.eco_ids.specs.Step.{Sets, changed, with_value}
-use Rattle.eco_world.proofs.Extending.{extended, there_after, alive_after, lawful_after, refused_after, sets_after}
+use Rattle.eco_world.proofs.Extending.{IsSetAfter, extended, refused_after, set_after}
 use Rattle.eco_world.proofs.Fitting.{written_fits}
 use Rattle.eco_world.proofs.world.World.set_absent.Goals as goal
+use Rattle.eco_world.proofs.world.World.set_absent.Goals.{In_ok-gain}
 
 pub returns-in_err-gain : goal.returns-in_err-gain
 returns-in_err-gain c =
@@ -14,45 +15,28 @@ returns-in_err-gain c =
     (extended c.args.self.now c.args.entity c.args.id c.args.value c.requires.may c.requires.absent
     (Err c.in_err-gain.field-0.0) c.gain.new.self c.in_err-gain.ensures))
 
+-- where the id was added, the write makes it a set
+after : (c : goal.In_ok-gain) → IsSetAfter c.args.self.now c.args.entity c.args.id c.args.value c.gain.new.self
+after c =
+    set_after c.args.self.now c.args.entity c.args.id c.args.value c.requires.may c.is_lawful.ensures
+    (c.steps_keep_lawful.ensures.set c.args.entity c.args.id c.args.value) c.requires.absent c.add_adds_once.ensures c.gain.new.self
+    (extended c.args.self.now c.args.entity c.args.id c.args.value c.requires.may c.requires.absent (Ok tt) c.gain.new.self c.in_ok-gain.ensures)
+
 pub write-requires-clause-alive : goal.write-requires-clause-alive
-write-requires-clause-alive c =
-    let extends = extended c.args.self.now c.args.entity c.args.id c.args.value c.requires.may c.requires.absent
-    (Ok tt) c.gain.new.self c.in_ok-gain.ensures in
-    alive_after c.args.self.now c.args.entity c.args.id c.args.value c.requires.may c.is_lawful.ensures
-    (c.steps_keep_lawful.ensures.set c.args.entity c.args.id c.args.value)
-    c.requires.absent c.add_adds_once.ensures c.gain.new.self extends
+write-requires-clause-alive c = (after (goal.at.write-requires-clause-alive c).In_ok-gain).alive
 
 pub write-requires-clause-lawful : goal.write-requires-clause-lawful
-write-requires-clause-lawful c = λ there.
-    let extends = extended c.args.self.now c.args.entity c.args.id c.args.value c.requires.may c.requires.absent
-    (Ok tt) c.gain.new.self c.in_ok-gain.ensures in
-    lawful_after c.args.self.now c.args.entity c.args.id c.args.value c.requires.may c.is_lawful.ensures
-    (c.steps_keep_lawful.ensures.set c.args.entity c.args.id c.args.value)
-    c.requires.absent c.add_adds_once.ensures c.gain.new.self extends
+write-requires-clause-lawful c = λ there. (after (goal.at.write-requires-clause-lawful c).In_ok-gain).lawful
 
 pub write-requires-clause-fits : goal.write-requires-clause-fits
 write-requires-clause-fits c =
-    let extends = extended c.args.self.now c.args.entity c.args.id c.args.value c.requires.may c.requires.absent
-    (Ok tt) c.gain.new.self c.in_ok-gain.ensures in
-    written_fits c.gain.new.self c.args.entity c.args.id c.args.value
-    (there_after c.args.self.now c.args.entity c.args.id c.args.value c.requires.may c.is_lawful.ensures
-    (c.steps_keep_lawful.ensures.set c.args.entity c.args.id c.args.value)
-    c.requires.absent c.add_adds_once.ensures c.gain.new.self extends)
-    (lawful_after c.args.self.now c.args.entity c.args.id c.args.value c.requires.may c.is_lawful.ensures
-    (c.steps_keep_lawful.ensures.set c.args.entity c.args.id c.args.value)
-    c.requires.absent c.add_adds_once.ensures c.gain.new.self extends)
+    let done = after (goal.at.write-requires-clause-fits c).In_ok-gain in
+    written_fits c.gain.new.self c.args.entity c.args.id c.args.value done.there done.lawful
 
 pub returns : goal.returns
 returns c =
-    let extends = extended c.args.self.now c.args.entity c.args.id c.args.value c.requires.may c.requires.absent
-    (Ok tt) c.gain.new.self c.in_ok-gain.ensures in
-    let there = there_after c.args.self.now c.args.entity c.args.id c.args.value c.requires.may c.is_lawful.ensures
-    (c.steps_keep_lawful.ensures.set c.args.entity c.args.id c.args.value)
-    c.requires.absent c.add_adds_once.ensures c.gain.new.self extends in
+    let done = after (goal.at.returns c).In_ok-gain in
     let is : c.write.new.self ≡ changed c.gain.new.self c.args.entity (with_value c.args.id c.args.value) =
     subst (λ b. MatchBool b (c.write.new.self ≡ changed c.gain.new.self c.args.entity (with_value c.args.id c.args.value))
-    (c.write.new.self ≡ c.gain.new.self)) (c.write.ensures.had ∙ there) c.write.ensures.written in
-    subst (λ w. Sets c.args.self.now c.args.entity c.args.id c.args.value (Ok tt) w) (sym is)
-    (sets_after c.args.self.now c.args.entity c.args.id c.args.value c.requires.may c.is_lawful.ensures
-    (c.steps_keep_lawful.ensures.set c.args.entity c.args.id c.args.value)
-    c.requires.absent c.add_adds_once.ensures c.gain.new.self extends)
+    (c.write.new.self ≡ c.gain.new.self)) (c.write.ensures.had ∙ done.there) c.write.ensures.written in
+    subst (λ w. Sets c.args.self.now c.args.entity c.args.id c.args.value (Ok tt) w) (sym is) done.sets

@@ -2,7 +2,8 @@ use Rattle.std.proofs.Common.{Ok, refl, sym, ◌∙◌, subst}
 use Rattle.eco_ids.specs.Lawful.{IsLawful}
 use Rattle.eco_world.specs.Losses.{takes_id}
 use Rattle.eco_world.proofs.Changes.{toggled_out, typed_without}
-use Rattle.eco_world.proofs.Extending.{loses, same_ok_state}
+use Rattle.eco_world.proofs.Extending.{loses}
+use Rattle.eco_ids.proofs.Results.{on_ok}
 use Rattle.eco_world.proofs.Losing.{alone_taken}
 use Rattle.eco_world.proofs.Mirroring.{another, lone}
 use Rattle.eco_world.proofs.MirrorSteps.{go_both, holder_lives}
@@ -26,8 +27,8 @@ pub returns-in-Some-clause-ok : goal.returns-in-Some-clause-ok
 returns-in-Some-clause-ok c =
     let w = c.args.self.now in
     let sought = another w c.args.entity c.args.id _ _ c.in-Some.is c.other_mirror.ensures in
-    same_ok_state c.step_both.result c.step_both.new.self _ _
-    (sym (go_both w c.is_lawful.ensures c.args.entity c.args.id c.in-Some.mirror sought.0 sought.1 c.requires.there)) c.step_both.ensures.ok
+    on_ok c.step_both.result
+    (λ is. is ∙ sym (go_both w c.is_lawful.ensures c.args.entity c.args.id c.in-Some.mirror sought.0 sought.1 c.requires.there)) c.step_both.ensures.ok
 
 pub step-requires-clause-lawful : goal.step-requires-clause-lawful
 step-requires-clause-lawful c =
@@ -40,6 +41,6 @@ step-requires-clause-lawful c =
 pub returns-clause-ok : goal.returns-clause-ok
 returns-clause-ok c =
     let w = c.args.self.now in
-    same_ok_state c.step.result c.step.new.self _ _
-    (toggled_out w c.args.entity c.args.id c.requires.there ∙ typed_without w c.args.entity c.is_lawful.ensures c.args.id _ refl
+    on_ok c.step.result
+    (λ is. is ∙ toggled_out w c.args.entity c.args.id c.requires.there ∙ typed_without w c.args.entity c.is_lawful.ensures c.args.id _ refl
     ∙ sym (alone_taken w c.args.entity c.args.id (lone w c.args.entity c.args.id _ c.in_default.is c.other_mirror.ensures))) c.step.ensures.ok

@@ -19,7 +19,6 @@ pub mod Rowless
 pub mod FoundTypes
 pub mod Ranking
 pub mod Stepping
-pub mod Exchanges
 pub mod WholeMoves
 pub mod Needing
 pub mod Lent

@@ -353,42 +353,9 @@ module _ (w : Indexed Registration) (s s1 : List (Option TableState)) (e : Entit
       ∙ sym (ap (change_kept (read w s) e (with_type ids)) old
       ∙ (λ t. with_record (read w s) e (record { name = to_record.0.name; arity = to_record.0.arity; held = retyped ids (held t) })))
 
--- ---- an entity that has the type already
-
 pub some_from_copied : {X : Type 0} (o : Option (Bor X)) (s : Option X) → option_copied o ≡ s → IsSome s → IsSome o
 some_from_copied None s h there = absurd (let none : is_some s ≡ false = sym (ap is_some h) in true≢false (sym there ∙ none))
 some_from_copied (Some b) s h there = refl
-
--- ids below an id are not it
-not_alike : (i j : Id) → IsTrue (is_lt (id_cmp i j)) → id_eq j i ≡ false
-not_alike i j h = ap is_eq (id_cmp_total.antisymm j i ∙ ap ordering_reverse (less (id_cmp i j) h))
-
-alike_self : (i : Id) → id_eq i i ≡ true
-alike_self i = by (id_cmp i i) (id_cmp_total.antisymm i i)
-  where
-    by : (r : Ordering) → r ≡ ordering_reverse r → is_eq r ≡ true
-    by Less h = absurd (cc)
-    by Equal h = refl
-    by Greater h = absurd (cc)
-
-map_alike : {X Y : Type 0} (f g : X → Y) (t : X → Bool) → ((x : X) → IsTrue (t x) → f x ≡ g x) → (xs : List X) → IsTrue (list_all t xs) → map f xs ≡ map g xs
-map_alike f g t same [] all = refl
-map_alike f g t same (x ∷ xs) all =
-    let here = same x (first (t x) (list_all t xs) all) in
-    let there = map_alike f g t same xs (second (t x) (list_all t xs) all) in
-    λ i. here i ∷ there i
-
--- what is held stays under its own type
-pub retyped-own : (held : List (Id × Value)) → IsTrue (is_ascending id_cmp (map (λ p. p.0) held)) → retyped (map (λ p. p.0) held) held ≡ held
-retyped-own [] up = refl
-retyped-own (p ∷ rest) up =
-    let here : value_in (p ∷ rest) p.0 ≡ p.1 = ap (λ b. unwrap_or (cond b (Some p.1) (find id_cmp p.0 rest)) zeros) (alike_self p.0) in
-    let there : map (λ i. (i, value_in (p ∷ rest) i)) (map (λ q. q.0) rest) ≡ map (λ i. (i, value_in rest i)) (map (λ q. q.0) rest) =
-    map_alike (λ i. (i, value_in (p ∷ rest) i)) (λ i. (i, value_in rest i)) (λ j. is_lt (id_cmp p.0 j))
-    (λ j below. ap (λ b. (j, unwrap_or (cond b (Some p.1) (find id_cmp j rest)) zeros)) (not_alike p.0 j below)) (map (λ q. q.0) rest)
-    (first _ _ up) in
-    let tail = retyped-own rest (second _ _ up) in
-    λ t. (p.0, here t) ∷ (there ∙ tail) t
 
 -- what an entity holds, its row does
 pub held_there : (w : Indexed Registration) (s : List (Option TableState)) (e : Entity) (p : Place) → IsStore w s → own_place w e ≡ Some p
@@ -396,32 +363,3 @@ pub held_there : (w : Indexed Registration) (s : List (Option TableState)) (e : 
 held_there w s e p store own =
     let r = placed_record w e p own in
     (r.0, r.1, ap (held_at (row_at s)) r.2 ∙ ap held_of (slice_get-get_or (rows_in s p.table) p.row no_row (row_within w s e p store own)))
-
-pub same_type : (w : Indexed Registration) (s : List (Option TableState)) (e : Entity) (p : Place) (ids : List Id) → IsStore w s → own_place w e ≡ Some p
-    → HasIds ids (row_in s p.table p.row) → IsTrue (is_ascending id_cmp ids) → read w s ≡ changed (read w s) e (with_type ids)
-same_type w s e p ids store own is up =
-    let row = row_in s p.table p.row in
-    let r = held_there w s e p store own in
-    let old : record_of (read w s) e ≡ Some (record_for (row_at s) r.0) = read_record w s e r.0 r.1 in
-    let own_held : retyped ids (held_at (row_at s) r.0.place) ≡ held_at (row_at s) r.0.place =
-    (λ t. retyped (sym is t) (r.2 t)) ∙ retyped-own row.held (subst (λ xs. IsTrue (is_ascending id_cmp xs)) (sym is) up) ∙ sym r.2 in
-    let same : set (read w s).indices e.index (Living e.generation (record_for (row_at s) r.0)) ≡ (read w s).indices =
-    set_own (read w s).indices e.index (Living e.generation (record_for (row_at s) r.0)) (living_at (read w s) e (record_for (row_at s) r.0) old) in
-    sym (ap (change_kept (read w s) e (with_type ids)) old
-    ∙ (λ t. with_record (read w s) e (record { name = r.0.name; arity = r.0.arity; held = own_held t }))
-    ∙ (λ t. record { limit = w.limit; indices = same t }))
-
--- an entity's ids are those of its row
-pub ids_there : (w : Indexed Registration) (s : List (Option TableState)) (e : Entity) (p : Place) (ids : List Id) → IsStore w s → own_place w e ≡ Some p
-    → type_in_store (read w s) e ≡ Some ids → HasIds ids (row_in s p.table p.row)
-ids_there w s e p ids store own is =
-    let r = held_there w s e p store own in
-    one_some (type_in_store (read w s) e) _ ids (ap (option_map record_ids) (read_record w s e r.0 r.1) ∙ ap (λ held. Some (map (λ q. q.0) held)) r.2) is
-
--- the type that an entity gets is not in the slot that it has
-pub other_slot : (s s0 : List (Option TableState)) (n to : ℕ) (own ids : List Id) → type_at s n ≡ Some own → KeepsTypes s s0 → type_at s0 to ≡ Some ids
-    → same_ids own ids ≡ false → n ≢ to
-other_slot s s0 n to own ids had keeps typed differ same =
-    let both : own ≡ ids = one_some (type_at s0 to) own ids (ap (type_at s0) (sym same) ∙ keeps n own had) typed in
-    let equal : same_ids own ids ≡ true = (same_ids-Decides own ids).1 both in
-    true≢false (sym equal ∙ differ)

@@ -352,7 +352,7 @@ impl Store {
         ensures written { self.new.entities ≡ changed self.old.entities e (record_with_written id value) }
         ensures had { result ≡ is_some (find id_cmp id (held_in_store self.old.entities e)) }
     {
-        let place = self.layout.entities.place_of(e).unwrap();
+        let place = self.layout.place_of(e);
         self.layout
             .archetypes
             .set_value(place.table, place.row, id, value)

@@ -7,7 +7,6 @@ use Rattle.std.proofs.lemmas.List.{set_comm}
 use Rattle.eco_ids.specs.declared.entity.Entity.{Entity}
 use Rattle.eco_ids.specs.declared.id.Id.{Id}
 use Rattle.eco_ids.specs.Indices.{changed, change_kept, is_alive, record_in, record_of, with_record, Indexed, Living}
-use Rattle.eco_ids.specs.World.{Record}
 use Rattle.eco_ids.proofs.Lists.{slice_get-set_other}
 use Rattle.eco_ids.proofs.States.{living_at, same_parts}
 use Rattle.eco_entities.specs.declared.place.Place.{Place}

@@ -1,5 +1,4 @@
 pub mod Holders
-pub mod Moves
 pub mod RowChanges
 pub mod SeatChanges
 pub mod Views

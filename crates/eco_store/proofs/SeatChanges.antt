@@ -30,7 +30,7 @@ module _ (P P' : ℕ → Option Seat) (E E' : ℕ → ℕ → Option TableRow) (
     (is : r.entity ≡ seated_entity i (record { generation = g; slot = t; row = end }))
     (now : P' i ≡ Some (record { generation = g; slot = t; row = end })) (kept : (j : ℕ) → j ≢ i → P' j ≡ P j) where
   -- a row elsewhere stays
-  pub push_keeps : (n k : ℕ) (x : TableRow) → E n k ≡ Some x → E' n k ≡ Some x
+  push_keeps : (n k : ℕ) (x : TableRow) → E n k ≡ Some x → E' n k ≡ Some x
   push_keeps n k x e =
       elim (cases_eq n t) [
         | inr other ↦ pushed.others n k other ∙ e
@@ -48,7 +48,7 @@ module _ (P P' : ℕ → Option Seat) (E E' : ℕ → ℕ → Option TableRow) (
             ap (λ m. E m k) same ∙ sym (pushed.others_here k (apart same)) ∙ ap (λ m. E' m k) (sym same) ∙ e
       ]
 
-  pub seated_pushed : IsSeated P' E'
+  seated_pushed : IsSeated P' E'
   seated_pushed = record {
     there = λ j p e.
         elim (cases_eq j i) [
@@ -78,7 +78,7 @@ module _ (P P' : ℕ → Option Seat) (E E' : ℕ → ℕ → Option TableRow) (
   }
 
   -- what is seen of another entity stays
-  pub pushed_seen : (j : ℕ) → j ≢ i → option_map (seen E') (P' j) ≡ option_map (seen E) (P j)
+  pushed_seen : (j : ℕ) → j ≢ i → option_map (seen E') (P' j) ≡ option_map (seen E) (P j)
   pushed_seen j other = ap (option_map (seen E')) (kept j other) ∙ by (P j) refl
     where
       by : (o : Option Seat) → P j ≡ o → option_map (seen E') o ≡ option_map (seen E) o
@@ -88,7 +88,10 @@ module _ (P P' : ℕ → Option Seat) (E E' : ℕ → ℕ → Option TableRow) (
           let new = push_keeps p.slot p.row old.0 old.1 in
           ap (λ o. Some (held_of o)) (new ∙ sym old.1)
 
-module _ (P P' : ℕ → Option Seat) (E E' : ℕ → ℕ → Option TableRow) (i g f row last : ℕ) (r m : TableRow)
+  pub pushed_change : IsSeated P' E' × ((j : ℕ) → j ≢ i → option_map (seen E') (P' j) ≡ option_map (seen E) (P j))
+  pushed_change = (seated_pushed, pushed_seen)
+
+module _ (P P' : ℕ → Option Seat) (E E' : ℕ → ℕ → Option TableRow) (i g f row last : ℕ) (m : TableRow)
     (seated : IsSeated P E) (removed : Removed E E' f row last)
     (at : P i ≡ Some (record { generation = g; slot = f; row = row }))
     (moved : E f last ≡ Some m)
@@ -126,7 +129,7 @@ module _ (P P' : ℕ → Option Seat) (E E' : ℕ → ℕ → Option TableRow) (
             ap (λ n. E' n p.row) same ∙ removed.others_here p.row (not_here j p not_i e same) (not_last j p not_m e same) ∙ ap (λ n. E n p.row) (sym same)
       ]
 
-  pub seated_removed : IsSeated P' E'
+  seated_removed : IsSeated P' E'
   seated_removed = record {
     there = λ j p e.
         elim (cases_eq j i) [
@@ -167,7 +170,8 @@ module _ (P P' : ℕ → Option Seat) (E E' : ℕ → ℕ → Option TableRow) (
         ];
   }
 
-  pub removed_seen : (j : ℕ) → j ≢ i → option_map (seen E') (P' j) ≡ option_map (seen E) (P j)
+  -- what is seen of another entity stays
+  removed_seen : (j : ℕ) → j ≢ i → option_map (seen E') (P' j) ≡ option_map (seen E) (P j)
   removed_seen j not_i =
       elim (cases_eq j m.entity.index) [
         | inl is_m ↦
@@ -182,3 +186,6 @@ module _ (P P' : ℕ → Option Seat) (E E' : ℕ → ℕ → Option TableRow) (
       by : (o : Option Seat) → P j ≡ o → j ≢ m.entity.index → option_map (seen E') o ≡ option_map (seen E) o
       by None e not_m = refl
       by (Some p) e not_m = ap (λ o. Some (held_of o)) (stays j p not_i not_m e)
+
+  pub removed_change : IsSeated P' E' × ((j : ℕ) → j ≢ i → option_map (seen E') (P' j) ≡ option_map (seen E) (P j))
+  removed_change = (seated_removed, removed_seen)

@@ -12,7 +12,7 @@ use Rattle.eco_ids.specs.declared.id.Id.{Id}
 use Rattle.eco_ids.specs.declared.refusal.Refusal.{Refusal}
 use Rattle.eco_ids.specs.declared.refusal.Refusal.TheVariants.{NotAlive, Reserved, BadName, NameTaken}
 use Rattle.eco_ids.specs.declared.value.Value.{Value}
-use Rattle.eco_ids.specs.Indices.{changed, change_kept, Indexed, IndexState, Retired, Free, Living, record_in, record_of, with_record, is_alive, map_state}
+use Rattle.eco_ids.specs.Indices.{changed, change_kept, Indexed, IndexState, Retired, Free, Living, record_in, record_of, is_alive, map_state}
 use Rattle.eco_ids.specs.Names.{is_proper, is_same_name}
 use Rattle.eco_ids.specs.Order.{id_cmp}
 use Rattle.eco_ids.specs.Outcome.{Meets, is_out_of_memory, first_refusal, Answers, Refuses}
@@ -27,12 +27,12 @@ use Rattle.eco_store.specs.Seats.{Seat, IsSeated, seat_of, seen, held_of}
 use Rattle.eco_archetypes.specs.Archetypes.{row_at}
 use Rattle.eco_store.specs.Store.{record_for, record_name, held_at, held_in_store, read, seat_in, seat_at, HasPlace, IsStore, Stands, IsShown, seat_of_place}
 use Rattle.eco_store.proofs.SeatChanges.{no_some, one_some}
-use Rattle.std.proofs.lemmas.Option.{slice_get-map}
 use Rattle.eco_store.proofs.Newborn.{is_borne-map}
-use Rattle.eco_store.proofs.StoreChanges.{placed_record, seat_there, read_record, row_within, held_there}
+use Rattle.eco_store.proofs.StoreChanges.{place_from_seat, placed_record, seat_there, read_record, row_within, held_there}
 use Rattle.eco_ids.proofs.Lists.{slice_get-set_there, slice_get-set_other}
 use Rattle.eco_ids.proofs.States.{living_at, record_at}
-use Rattle.eco_store.proofs.Views.{ext_slice_get, seen_alike}
+use Rattle.eco_store.proofs.Views.{alike_set, changed_at, read_at, seen_alike}
+use Rattle.std.proofs.lemmas.List.{map-set}
 
 -- ---- readers
 
@@ -176,31 +176,22 @@ module _ (w : Indexed Registration) (s s1 : List (Option TableState)) (e : Entit
       let held : held_at (row_at s) r.0.place ≡ old_row.held = ap (held_at (row_at s)) r.2 ∙ ap held_of old_there in
       let after : Record = held_anew (record_for (row_at s) r.0) in
       let here : slice_get (read w s1).indices e.index ≡ Some (Living e.generation after) =
-      slice_get-map (map_state (record_for (row_at s1))) w.indices e.index ∙ ap (option_map (map_state (record_for (row_at s1)))) living
+      read_at w s1 e.index _ living
       ∙ (λ t. Some (Living e.generation
       (record {
         name = r.0.name;
         arity = r.0.arity;
         held = (ap (held_at (row_at s1)) r.2 ∙ ap held_of new_there ∙ ap f (sym held)) t;
       }))) in
-      let indices : (read w s1).indices ≡ set (read w s).indices e.index (Living e.generation after) =
-      ext_slice_get (read w s1).indices (set (read w s).indices e.index (Living e.generation after))
-      (λ j. elim (cases_eq j e.index) [
-        | inl h ↦
-            ap (slice_get (read w s1).indices) h ∙ here
-            ∙ sym (ap (slice_get (set (read w s).indices e.index (Living e.generation after))) h
-            ∙ slice_get-set_there (read w s).indices e.index (Living e.generation after) _ (living_at (read w s) e (record_for (row_at s) r.0) before))
-        | inr other ↦
-            seen_alike w w s s1 j refl (others_seen j other (seat_at w j) refl)
-            ∙ sym (slice_get-set_other (read w s).indices e.index j (Living e.generation after) other)
-      ]) in
+      let indices = alike_set (read w s1).indices (read w s).indices e.index (Living e.generation after) _ (read_at w s e.index _ living) here
+      (λ j other. seen_alike w w s s1 j refl (others_seen j other (seat_at w j) refl)) in
       (λ t. record { limit = w.limit; indices = indices t }) ∙ sym (ap (change_kept (read w s) e held_anew) before)
 
 -- ---- a name given
 record_of-read : (w : Indexed Registration) (s : List (Option TableState)) (e : Entity) →
     record_of (read w s) e ≡ option_map (record_for (row_at s)) (record_of w e)
 record_of-read w s e =
-    ap (λ o. record_in o e.generation) (slice_get-map (map_state (record_for (row_at s))) w.indices e.index) ∙ by (slice_get w.indices e.index)
+    ap (λ o. record_in o e.generation) (read_at w s e.index _ refl) ∙ by (slice_get w.indices e.index)
   where
     with_test : (b : Bool) (r : Registration) → ◌≡◌ {A = Option Record} (if b then Some (record_for (row_at s) r) else None)
         (option_map (record_for (row_at s)) (if b then Some r else None))
@@ -221,42 +212,14 @@ alive_same w s e = ap is_some (record_of-read w s e) ∙ by (record_of w e)
     by None = refl
     by (Some r) = refl
 
-pub map-set : {X Y : Type 0} (f : X → Y) (xs : List X) (i : ℕ) (x : X) → map f (set xs i x) ≡ set (map f xs) i (f x)
-map-set f [] i x = refl
-map-set f (y ∷ ys) zero x = refl
-map-set f (y ∷ ys) (suc i) x = ap (λ zs. f y ∷ zs) (map-set f ys i x)
-
 module _ (w : Indexed Registration) (s : List (Option TableState)) (e : Entity) (name : Option (List ℕ)) where
-  seats_same : (r : Registration) → record_of w e ≡ Some r → (j : ℕ) → seat_at (with_record w e (renamed name r)) j ≡ seat_at w j
-  seats_same r h j =
-      elim (cases_eq j e.index) [
-        | inl here ↦
-            ap (λ k. seat_in (slice_get (set w.indices e.index (Living e.generation (renamed name r))) k)) here
-            ∙ ap seat_in (slice_get-set_there w.indices e.index (Living e.generation (renamed name r)) (Living e.generation r) (living_at w e r h))
-            ∙ sym (ap (seat_at w) here ∙ ap seat_in (living_at w e r h))
-        | inr other ↦ ap seat_in (slice_get-set_other w.indices e.index j (Living e.generation (renamed name r)) other)
-      ]
-
-  places_same : (r : Registration) → record_of w e ≡ Some r → ((j : ℕ) → HasPlace (slice_get w.indices j)) → (j : ℕ) →
-      HasPlace (slice_get (with_record w e (renamed name r)).indices j)
-  places_same r h had j =
-      elim (cases_eq j e.index) [
-        | inl here ↦
-            subst HasPlace (sym (ap (slice_get (set w.indices e.index (Living e.generation (renamed name r)))) here
-            ∙ slice_get-set_there w.indices e.index (Living e.generation (renamed name r)) (Living e.generation r) (living_at w e r h)))
-            (subst HasPlace (living_at w e r h) (had e.index))
-        | inr other ↦ subst HasPlace (sym (slice_get-set_other w.indices e.index j (Living e.generation (renamed name r)) other)) (had j)
-      ]
-
   renamed_store : IsStore w s → IsStore (changed w e (renamed name)) s
-  renamed_store store = by (record_of w e) refl
-    where
-      by : (o : Option Registration) → record_of w e ≡ o → IsStore (change_kept w e (renamed name) o) s
-      by None h = store
-      by (Some r) h = record {
-        seated = subst (λ P. IsSeated P (row_at s)) (sym (λ t j. seats_same r h j t)) store.seated;
-        placed = places_same r h store.placed;
-      }
+  renamed_store store = record {
+    seated =
+        subst (λ P. IsSeated P (row_at s)) (sym (λ t j. changed_at w e (renamed name) (λ a b. seat_in b ≡ seat_in a) (λ o. refl) (λ g r. refl) j t))
+        store.seated;
+    placed = λ j. changed_at w e (renamed name) (λ a b. HasPlace a → HasPlace b) (λ o h. h) (λ g r h. h) j (store.placed j);
+  }
 
   renamed_read : read (changed w e (renamed name)) s ≡ changed (read w s) e (with_name name)
   renamed_read = by (record_of w e) ∙ ap (change_kept (read w s) e (with_name name)) (sym (record_of-read w s e))
@@ -310,21 +273,6 @@ module _ (w : Indexed Registration) (s : List (Option TableState)) (e : Entity) 
           )
 
 -- ---- the tables show the store
-
-pub place_from_seat : (o : Option (IndexState Registration)) (e : Entity) (n k : ℕ) → seat_in o ≡ Some (seat_of e n k)
-    → (r : Registration) × (o ≡ Some (Living e.generation r)) × (r.place ≡ Some (record { table = n; row = k }))
-place_from_seat None e n k h = absurd (cc)
-place_from_seat (Some Retired) e n k h = absurd (cc)
-place_from_seat (Some (Free g)) e n k h = absurd (cc)
-place_from_seat (Some (Living g r)) e n k h = by r.place refl h
-  where
-    by : (p : Option Place) → r.place ≡ p → option_map (seat_of_place g) p ≡ Some (seat_of e n k)
-        → (x : Registration) × (◌≡◌ {A = Option (IndexState Registration)} (Some (Living g r)) (Some (Living e.generation x)))
-        × (x.place ≡ Some (record { table = n; row = k }))
-    by None is h = absurd (cc)
-    by (Some p) is h =
-        let same : seat_of_place g p ≡ seat_of e n k = cc in
-        (r, (λ t. Some (Living (same t).generation r)), is ∙ (λ t. Some (record { table = (same t).slot; row = (same t).row })))
 
 pub slot_there : (s : List (Option TableState)) (n k : ℕ) (r : TableRow) → row_at s n k ≡ Some r → slot_of s n ≡ Some (table_in s n)
 slot_there s n k r = by (slot_of s n)

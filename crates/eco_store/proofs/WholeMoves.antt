@@ -10,7 +10,7 @@ use Rattle.std.proofs.lemmas.Option.{slice_get-map, slice_get_past, slice_get_wi
 use Rattle.eco_ids.specs.declared.entity.Entity.{Entity}
 use Rattle.eco_ids.specs.declared.id.Id.{Id}
 use Rattle.eco_ids.specs.Indices.{changed, change_kept, Indexed, IndexState, Retired, Free, Living, is_alive, map_state}
-use Rattle.eco_ids.proofs.Lists.{not_equal, slice_get-set_there, slice_get-set_other}
+use Rattle.eco_ids.proofs.Lists.{not_equal}
 use Rattle.eco_ids.proofs.States.{record_at}
 use Rattle.eco_entities.specs.declared.place.Place.{Place}
 use Rattle.eco_entities.specs.Registration.{Registration, placed}
@@ -29,8 +29,9 @@ use Rattle.eco_store.proofs.Retyping.{other_type, own_type}
 use Rattle.eco_store.proofs.RowChanges.{is_equal}
 use Rattle.eco_store.proofs.RowCounts.{rows_bounded}
 use Rattle.eco_store.proofs.SeatChanges.{no_some, one_some}
-use Rattle.eco_store.proofs.Values.{place_from_seat, has_place}
-use Rattle.eco_store.proofs.Views.{ext_slice_get}
+use Rattle.eco_store.proofs.Values.{has_place}
+use Rattle.eco_store.proofs.StoreChanges.{place_from_seat}
+use Rattle.eco_store.proofs.Views.{alike_set, ext_slice_get}
 
 slice_get-front : {X : Type 0} (xs ys : List X) (i : ℕ) → i < length xs → slice_get (xs ++ ys) i ≡ slice_get xs i
 slice_get-front [] ys i within = absurd (omega arith)
@@ -146,16 +147,10 @@ module _ (w : Indexed Registration) (s : List (Option TableState)) (store : IsSt
           })))
 
       indices : set (with_places w t end count).indices e.index new ≡ (with_places w t end (count + 1)).indices
-      indices = ext_slice_get _ _ (λ j. elim (cases_eq j e.index) [
-        | inl same ↦
-            ap (slice_get (set (with_places w t end count).indices e.index new)) same
-            ∙ slice_get-set_there (with_places w t end count).indices e.index new _ unplaced
-            ∙ sym (ap (slice_get (with_places w t end (count + 1)).indices) same ∙ here)
-        | inr other ↦
-            slice_get-set_other (with_places w t end count).indices e.index j new other
-            ∙ slice_get-map (map_state (placed_after t end count)) w.indices j ∙ alike j other (slice_get w.indices j) refl
-            ∙ sym (slice_get-map (map_state (placed_after t end (count + 1))) w.indices j)
-      ])
+      indices =
+          sym (alike_set (with_places w t end (count + 1)).indices (with_places w t end count).indices e.index new _ unplaced here (λ j other.
+          slice_get-map (map_state (placed_after t end (count + 1))) w.indices j ∙ sym (alike j other (slice_get w.indices j) refl)
+          ∙ sym (slice_get-map (map_state (placed_after t end count)) w.indices j)))
 
 -- who stands in a row has its seat
 pub seat_of_row : (w : Indexed Registration) (s : List (Option TableState)) (n k : ℕ) (es : List Entity) (d : Entity) → IsStore w s

@@ -28,7 +28,7 @@ fix_place-requires-clause-living c =
     let moves =
     row_moves l.archetypes _ c.args.place to n _ _ c.requires.apart refl (λ t. record { table = n; row = end t }) c.move_row-filler.ensures.moves
     c.move_row-filler.ensures.moved in
-    changes.to_movers_live l.entities l.archetypes _ c.args.e c.args.place to _ _ c.requires.laid.store c.requires.own moves
+    changes.movers_live l.entities l.archetypes _ c.args.e c.args.place _ c.requires.laid.store c.requires.own moves.source moves.filled
 
 pub fix_place-requires-clause-fits : goal.fix_place-requires-clause-fits
 fix_place-requires-clause-fits c =
@@ -44,7 +44,7 @@ set_place-requires-clause-alive c =
     row_moves l.archetypes _ c.args.place to n _ _ c.requires.apart refl (λ t. record { table = n; row = end t }) c.move_row-filler.ensures.moves
     c.move_row-filler.ensures.moved in
     rw c.fix_place.ensures
-    (changes.to_alive l.entities l.archetypes _ c.args.e c.args.place to _ _ c.requires.laid.store c.requires.own moves)
+    (changes.still_lives l.entities l.archetypes _ c.args.e c.args.place _ c.requires.laid.store c.requires.own moves.source moves.filled)
 
 pub set_place-requires-clause-fits : goal.set_place-requires-clause-fits
 set_place-requires-clause-fits c =
@@ -64,7 +64,7 @@ release-requires c =
     record {
       store =
           rw (c.set_place.ensures, c.fix_place.ensures)
-          (changes.to_store l.entities l.archetypes _ c.args.e p to _ _ c.requires.laid.store c.requires.own moves);
+          (changes.to_store l.entities l.archetypes _ c.args.e p _ c.requires.laid.store c.requires.own moves.source moves.filled to _ moves);
       covers =
           placed_covers c.needs_never_grow.ensures _ _ _ c.args.e to c.set_place.ensures
           (fixed_covers c.needs_never_grow.ensures l.entities c.fix_place.new.entities _ c.move_row-filler.result p c.fix_place.ensures
@@ -100,4 +100,4 @@ returns-clause-seen c =
     c.move_row-filler.ensures.moved in
     seen_alike c.set_place.new.self s1 c.release.new.self c.release.ensures.entities c.release.ensures.rows
     ∙ ap (λ v. read v s1) (c.set_place.ensures ∙ ap (λ v. changed v c.args.e (placed to)) c.fix_place.ensures)
-    ∙ changes.to_read l.entities l.archetypes s1 c.args.e p to _ _ c.requires.laid.store c.requires.own moves
+    ∙ changes.to_read l.entities l.archetypes s1 c.args.e p _ c.requires.laid.store c.requires.own moves.source moves.filled to _ moves

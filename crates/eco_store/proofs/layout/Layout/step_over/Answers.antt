@@ -1,4 +1,4 @@
-use Rattle.std.proofs.Common.{ap, ◌∙◌, arith}
+use Rattle.std.proofs.Common.{◌∙◌, arith}
 use Rattle.std.proofs.lemmas.Result.{err_from_is_err_and}
 use Rattle.eco_index.specs.Edges.{toggled}
 use Rattle.eco_archetypes.proofs.ArchetypeLemmas.{there_as_typed, typed_table}

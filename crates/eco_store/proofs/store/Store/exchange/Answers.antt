@@ -1,4 +1,4 @@
-use Rattle.std.proofs.Common.{sym, ◌∙◌}
+use Rattle.std.proofs.Common.{◌∙◌}
 use Rattle.eco_index.specs.Edges.{exchanged}
 use Rattle.eco_store.specs.Layout.{seen}
 use Rattle.eco_store.specs.Store.{with_exchanged}
@@ -7,10 +7,12 @@ use Rattle.eco_store.proofs.Stepping.{has_typed, leads_to}
 use Rattle.eco_store.proofs.store.Store.exchange.Goals as goal
 
 pub exchange-found-requires-clause-there : goal.exchange-found-requires-clause-there
-exchange-found-requires-clause-there c = has_typed (seen c.self.inside.layout) c.args.e _ c.place_of-place.ensures.typed c.args.leaving ∙ (rw (← c.self.view_is) at c.requires.there)
+exchange-found-requires-clause-there c =
+    has_typed (seen c.self.inside.layout) c.args.e _ c.place_of-place.ensures.typed c.args.leaving ∙ (rw (← c.self.view_is) at c.requires.there)
 
 pub exchange-found-requires-clause-absent : goal.exchange-found-requires-clause-absent
-exchange-found-requires-clause-absent c = has_typed (seen c.self.inside.layout) c.args.e _ c.place_of-place.ensures.typed c.args.coming ∙ (rw (← c.self.view_is) at c.requires.absent)
+exchange-found-requires-clause-absent c =
+    has_typed (seen c.self.inside.layout) c.args.e _ c.place_of-place.ensures.typed c.args.coming ∙ (rw (← c.self.view_is) at c.requires.absent)
 
 pub carry_to-requires-clause-laid : goal.carry_to-requires-clause-laid
 carry_to-requires-clause-laid c =

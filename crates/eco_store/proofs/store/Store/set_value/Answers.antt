@@ -4,12 +4,10 @@ use Rattle.std.specs.FinMap.Entries.{find}
 use Rattle.eco_ids.specs.Order.{id_cmp}
 use Rattle.eco_tables.specs.Column.{with_held}
 use Rattle.eco_tables.specs.Tables.{no_table}
-use Rattle.eco_archetypes.proofs.ArchetypeLemmas.{there_by_row}
 use Rattle.eco_store.specs.Staying.{all_staying}
 use Rattle.eco_store.proofs.LaidRows.{sets_rows}
 use Rattle.eco_store.proofs.Needing.{fits_in}
 use Rattle.eco_store.proofs.Rowless.{rowless_rewritten}
-use Rattle.eco_store.proofs.StoreChanges.{row_within}
 use Rattle.eco_store.proofs.Values.{held_read, written_store, written_read}
 use Rattle.eco_store.proofs.store.Store.set_value.Goals as goal
 

@@ -1,19 +1,14 @@
-use Rattle.std.proofs.Common.{◌≡◌, ◌≢◌, ◌<◌, ◌≤◌, ℕ, List, Option, Result, Ok, Err, IfOk, OnOk, sym, ap, ◌∙◌, subst}
+use Rattle.std.proofs.Common.{◌≢◌, ◌<◌, sym, ap, ◌∙◌, subst}
 use Rattle.std.proofs.lemmas.Result.{IfOk-weaker}
-use Rattle.eco_tables.specs.Table.{TableState}
 use Rattle.eco_tables.specs.Tables.{table_in}
 use Rattle.eco_index.specs.Edges.{toggled}
 use Rattle.eco_archetypes.specs.Archetypes.{type_at}
 use Rattle.eco_store.specs.Layout.{seen}
 use Rattle.eco_store.specs.Store.{with_toggled}
 use Rattle.eco_store.proofs.Laid.{sought_err, sought_laid, sought_ok, still_settled}
+use Rattle.eco_store.proofs.Sorting.{both_ok}
 use Rattle.eco_store.proofs.Stepping.{leads_to}
 use Rattle.eco_store.proofs.store.Store.step.Goals as goal
-
-room_had : {E : Type 0} (s : List (Option TableState)) (n : ℕ) (r : Result ℕ E) → IfOk r (λ to. to ≡ n) → OnOk r (1 ≤ (table_in s n).room)
-    → IfOk r (λ to. 0 < (table_in s to).room)
-room_had s n (Ok to) same room = subst (λ k. 0 < (table_in s k).room) (sym same) room
-room_had s n (Err e) same room = tt
 
 pub make_room-found-requires : goal.make_room-found-requires
 make_room-found-requires c = c.in-Some.ensures.there
@@ -30,7 +25,8 @@ carry_to-requires-clause-apart c =
 
 pub carry_to-requires-clause-room : goal.carry_to-requires-clause-room
 carry_to-requires-clause-room c =
-    room_had c.make_room-found.new.self c.in-Some.led c.make_room-found.result c.make_room-found.ensures.same c.make_room-found.ensures.room
+    both_ok _ _ _ (λ to same room. subst (λ n. 0 < (table_in c.make_room-found.new.self n).room) (sym same) room) c.make_room-found.result
+    c.make_room-found.ensures.same c.make_room-found.ensures.room
 
 pub invariant_of-self : goal.invariant_of-self
 invariant_of-self c = still_settled c.self.inside.layout _ c.carry_to.ensures.staying c.self.invariant c.carry_to.ensures.laid

@@ -76,6 +76,7 @@ returns c =
       seen =
           seen_alike c.kill.new.self s1 c.release.new.self c.release.ensures.entities c.release.ensures.rows
           ∙ ap (λ v. read v s1) (c.kill.ensures ∙ ap (λ v. with_death v c.args.entity) c.fix_place.ensures)
-          ∙ changes.out_read l.entities s s1 c.args.entity p _ c.requires.laid.store c.place_of-place.ensures.own takes.rows.changed takes.filled takes.rows.others;
+          ∙ changes.out_read l.entities s s1 c.args.entity p _ c.requires.laid.store c.place_of-place.ensures.own takes.rows.changed takes.filled
+          takes.rows.others;
       staying = c.release.ensures.staying;
     }

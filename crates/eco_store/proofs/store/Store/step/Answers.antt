@@ -10,9 +10,6 @@ use Rattle.eco_store.proofs.Sorting.{both_ok}
 use Rattle.eco_store.proofs.Stepping.{leads_to}
 use Rattle.eco_store.proofs.store.Store.step.Goals as goal
 
-pub make_room-found-requires : goal.make_room-found-requires
-make_room-found-requires c = c.in-Some.ensures.there
-
 pub carry_to-requires-clause-laid : goal.carry_to-requires-clause-laid
 carry_to-requires-clause-laid c =
     let tables = c.make_room-found.ensures in

@@ -26,8 +26,3 @@ returns-clause-settled c =
           (subst (RowlessIn s) (append_assoc p.gathered p.targets p.idle) c.requires.tidy))))));
       done = done_idle q p.idle c.clear.ensures;
     }
-
-pub returns-clause-same : goal.returns-clause-same
-returns-clause-same c =
-    same_read c.args.self.now.entities c.args.self.now.archetypes c.drop_each-2.new.self
-    (λ n k. c.drop_each-2.ensures.rows n k ∙ c.drop_each.ensures.rows n k)

@@ -15,9 +15,6 @@ use Rattle.eco_store.proofs.Rowless.{rowless_emptied, rowless_gathered}
 use Rattle.eco_store.proofs.Thinning.{thins_without}
 use Rattle.eco_store.proofs.layout.Layout.kill_rows.Goals as goal
 
-pub kill_standing-requires-clause-store : goal.kill_standing-requires-clause-store
-kill_standing-requires-clause-store c = subst (IsStore c.args.self.now.entities) (sym c.tables.ensures.same) c.requires.laid.store
-
 -- they go with others
 pub returns-then-gather-clause-loses : goal.returns-then-gather-clause-loses
 returns-then-gather-clause-loses c =

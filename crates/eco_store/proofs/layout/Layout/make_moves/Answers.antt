@@ -76,8 +76,3 @@ loop-place-preserved c =
           ∙ ap (λ w. after_move w m) was.seen ∙ sym (fold-append after_move w0 (take i ms) (m ∷ []))
           ∙ sym (ap (after_moves w0) more);
     }
-
-pub returns-clause-seen : goal.returns-clause-seen
-returns-clause-seen c =
-    c.loop-place.invariant.seen
-    ∙ ap (after_moves (read c.args.self.now.entities c.args.self.now.archetypes)) (take_all c.loop-place.place c.args.moves.now c.loop-place-test.false)

@@ -11,9 +11,6 @@ use Rattle.eco_store.proofs.Laid.{plans_seen}
 use Rattle.eco_store.proofs.Stepping.{leads_to}
 use Rattle.eco_store.proofs.layout.Layout.step_over.Goals as goal
 
-pub go_to-requires-clause-there : goal.go_to-requires-clause-there
-go_to-requires-clause-there c = there_as_typed _ c.in_ok-to.to _ c.in_ok-to.ensures.typed
-
 pub go_to-requires-clause-room : goal.go_to-requires-clause-room
 go_to-requires-clause-room c = let two = c.in_ok-to.ensures.room in omega (arith, two)
 

@@ -24,6 +24,3 @@ returns-clause-plans c =
     let l = c.args.self.now in
     plans_target l c.requires.laid c.step.new.self c.add_target.new.self c.step.ensures.rows c.step.ensures.widths c.in_ok-to.to
     (c.in_ok-to.ensures.rowless (all_staying l.staying) c.requires.laid.tidy) c.in_default.ensures.ok
-
-pub returns-clause-named : goal.returns-clause-named
-returns-clause-named c = rw c.in_default.ensures.ok (is_targeted c.args.self.now.staying c.in_ok-to.to)

@@ -24,9 +24,6 @@ returns-in_err-reserve_more-clause-plans c =
     (plans_same l c.loop-slot.invariant.plans.laid c.reserve_more.new.self l.staying c.reserve_more.ensures.rows (c.reserve_more.ensures.widths _)
     (c.reserve_more.ensures.rowless (all_staying l.staying) c.loop-slot.invariant.plans.laid.tidy) refl)
 
-pub returns-in_err-reserve_more-clause-types : goal.returns-in_err-reserve_more-clause-types
-returns-in_err-reserve_more-clause-types c = λ n. c.reserve_more.ensures.types n ∙ c.loop-slot.invariant.types n
-
 pub loop-slot-preserved : goal.loop-slot-preserved
 loop-slot-preserved c =
     let i = c.loop-slot.slot-index in
@@ -50,7 +47,3 @@ loop-slot-init c = record {
   types = λ n. refl;
   room = room_none c.args.self.now.archetypes;
 }
-
-pub returns-clause-room : goal.returns-clause-room
-returns-clause-room c =
-    subst (HasRoomFor c.loop-slot.self.archetypes) (take_all c.loop-slot.slot-index c.args.slots.now c.loop-slot-test.false) c.loop-slot.invariant.room

@@ -50,19 +50,6 @@ carry_to-requires-clause-apart c =
     IfOk-weaker c.room_for-found.result _ _ (λ to typed same. two_types own _ differ (type_at s1 n) had (ap (type_at s1) same ∙ typed))
     c.room_for-found.ensures.typed
 
-pub invariant_of-self : goal.invariant_of-self
-invariant_of-self c = still_settled c.self.inside.layout _ c.carry_to.ensures.staying c.self.invariant c.carry_to.ensures.laid
-
-pub returns-clause-ok : goal.returns-clause-ok
-returns-clause-ok c =
-    rw (← c.self.view_is)
-    (sought_ok c.self.inside.layout _ c.room_for-found.ensures.rows c.carry_to.result _ c.args.e c.args.type_list.now (with_type c.args.type_list.now)
-    refl (c.carry_to.ensures.ok _ c.room_for-found.ensures.typed))
-
-pub returns-clause-err : goal.returns-clause-err
-returns-clause-err c =
-    rw (← c.self.view_is) (sought_err c.self.inside.layout _ c.room_for-found.ensures.rows c.carry_to.result _ c.carry_to.ensures.err)
-
 pub returns-clause-own : goal.returns-clause-own
 returns-clause-own c =
     let slot = sym (c.get.ensures ∙ ap (λ s. slot_of s c.place_of-place.result.table) c.tables.ensures.same) ∙ ap option_copied c.unwrap-table.ensures in

@@ -177,6 +177,13 @@ module _ {A B : Type 0} (f : A → B) (name_a : A → Option (List ℕ)) (name_b
   may_same : may_make name_b shown (name_b d') ≡ may_make name_a w (name_a d)
   may_same = λ t. not (is_some (unfit_same t)) && is_some (next_same t)
 
+  -- an end below is one here
+  ends_shown : (r : Result Entity Refusal) (new : Indexed B) → Ends (unfit_name name_a w (name_a d)) (next_entity w) (λ e. with_new shown e d') shown r new
+      → Makes name_b shown d' r new
+  ends_shown r new h =
+      subst (λ u. Ends u (next_entity shown) (λ e. with_new shown e d') shown r new) (sym unfit_same)
+      (subst (λ n. Ends (unfit_name name_a w (name_a d)) n (λ e. with_new shown e d') shown r new) (sym next_same) h)
+
   -- a creation that is refused below is refused so here
   pub create_refused : (new : Indexed A) (why : Refusal) → Meets (Makes name_a w d) (may_make name_a w (name_a d)) w (refused why) new
       → (new ≡ w) × Meets (Makes name_b shown d') (may_make name_b shown (name_b d')) shown (refused why) shown
@@ -186,17 +193,8 @@ module _ {A B : Type 0} (f : A → B) (name_a : A → Option (List ℕ)) (name_b
           → (new ≡ w) × MatchBool b (IsTrue (may_make name_b shown (name_b d')) × (shown ≡ shown)) (Makes name_b shown d' (refused why) shown)
       by true q = (q.1, (may_same ∙ q.0, refl))
       by false q =
-          let r = refused_ends (unfit_name name_a w (name_a d)) (next_entity w) (λ e. with_new w e d) (λ e. with_new shown e d') w new shown why q in (
-            r.0,
-            subst (λ u. MatchOption u
-                (MatchOption (next_entity shown) (Refuses NoMoreIds shown (refused why) shown) (λ e. Answers e (with_new shown e d') (refused why) shown))
-                (λ x. Refuses x shown (refused why) shown))
-                (sym unfit_same)
-                (subst (λ n. MatchOption (unfit_name name_a w (name_a d))
-                (MatchOption n (Refuses NoMoreIds shown (refused why) shown) (λ e. Answers e (with_new shown e d') (refused why) shown))
-                (λ x. Refuses x shown (refused why) shown))
-                (sym next_same) r.1),
-          )
+          let r = refused_ends (unfit_name name_a w (name_a d)) (next_entity w) (λ e. with_new w e d) (λ e. with_new shown e d') w new shown why q in
+          (r.0, ends_shown (refused why) shown r.1)
 
   -- one that succeeds makes the next entity
   pub create_made : (new : Indexed A) (e : Entity) → Meets (Makes name_a w d) (may_make name_a w (name_a d)) w (Ok e) new
@@ -207,11 +205,7 @@ module _ {A B : Type 0} (f : A → B) (name_a : A → Option (List ℕ)) (name_b
       → new' ≡ with_new shown e d' → Meets (Makes name_b shown d') (may_make name_b shown (name_b d')) shown (Ok e) new'
   create_done new new' e h is =
       let r = made_ends (unfit_name name_a w (name_a d)) (next_entity w) (λ x. with_new w x d) w new e h in
-      subst (λ u. MatchOption u (MatchOption (next_entity shown) (Refuses NoMoreIds shown (Ok e) new') (λ x. Answers x (with_new shown x d') (Ok e) new'))
-      (λ x. Refuses x shown (Ok e) new'))
-      (sym (unfit_same ∙ r.0))
-      (subst (λ n. MatchOption n (Refuses NoMoreIds shown (Ok e) new') (λ x. Answers x (with_new shown x d') (Ok e) new'))
-      (sym (next_same ∙ r.1)) (refl, is))
+      ends_shown (Ok e) new' (rw (r.0, r.1) (refl, is))
 
 -- no name is unfit for want of memory
 unfit_known : {A : Type 0} (name_of : A → Option (List ℕ)) (w : Indexed A) (name : Option (List ℕ)) (why : Refusal) → unfit_name name_of w name ≡ Some why

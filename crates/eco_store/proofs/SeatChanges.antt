@@ -1,5 +1,5 @@
 -- What a row taken out and a row put in leave of the seats.
-use Rattle.std.proofs.Common.{◌≡◌, ◌≢◌, ℕ, Option, Some, None, option_map, refl, sym, ap, ◌∙◌, inl, inr}
+use Rattle.std.proofs.Common.{◌≡◌, ◌≢◌, ℕ, Option, Some, None, option_map, refl, sym, ap, subst, ◌∙◌, inl, inr}
 use Rattle.std.proofs.lemmas.Bool.{cases_eq}
 use Rattle.eco_ids.specs.declared.entity.Entity.{Entity}
 use Rattle.eco_tables.specs.Table.{TableRow}
@@ -24,6 +24,26 @@ no_some o x a b = let bad : ◌≡◌ {A = Option _} None (Some x) = sym a ∙ b
 
 pub one_some : {X : Type 0} (o : Option X) (x y : X) → o ≡ Some x → o ≡ Some y → x ≡ y
 one_some o x y a b = let both : ◌≡◌ {A = Option _} (Some x) (Some y) = sym a ∙ b in cc
+
+-- whose row it is
+abbrev pub who : Option TableRow → Option Entity
+who = option_map (λ (r : TableRow). r.entity)
+
+whose : (o : Option TableRow) (e : Entity) → who o ≡ Some e → (r : TableRow) × (o ≡ Some r) × (r.entity ≡ e)
+whose None e h = absurd (cc)
+whose (Some r) e h = (r, refl, cc)
+
+-- rows hold something else, each of the same entity
+pub rewritten_seated : (P : ℕ → Option Seat) (E E' : ℕ → ℕ → Option TableRow) → ((n k : ℕ) → who (E' n k) ≡ who (E n k)) → IsSeated P E → IsSeated P E'
+rewritten_seated P E E' same seated = record {
+  there = λ j p h.
+      let old = seated.there j p h in
+      let now = whose (E' p.slot p.row) old.0.entity (same p.slot p.row ∙ ap who old.1) in
+      (now.0, now.1, now.2 ∙ old.2);
+  back = λ n k x h.
+      let old = whose (E n k) x.entity (sym (same n k) ∙ ap who h) in
+      subst (λ (e : Entity). P e.index ≡ Some (seat_of e n k)) old.2 (seated.back n k old.0 old.1);
+}
 
 module _ (P P' : ℕ → Option Seat) (E E' : ℕ → ℕ → Option TableRow) (i g t end : ℕ) (r : TableRow)
     (seated : IsSeated P E) (pushed : Pushed E E' t end r) (was : P i ≡ None)

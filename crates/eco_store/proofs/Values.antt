@@ -1,10 +1,9 @@
 -- What a store answers of one entity, and the store after a value or a name was written.
 use Rattle.std.proofs.Common.{◌≡◌, ◌≢◌, ℕ, zero, suc, ◌<◌, Bool, true, false, not, ◌&&◌, List, [], ◌∷◌, map, length, slice_get, set, get_or, Option, Some, None}
 use Rattle.std.proofs.Common.{option_map, option_and_then, unwrap_or, is_some, IsSome, IsTrue, if◌then◌else◌, ◌==◌, Result, MatchBool, MatchOption, refl, sym}
-use Rattle.std.proofs.Common.{ap, subst, ◌∙◌, inl, inr}
+use Rattle.std.proofs.Common.{ap, subst, ◌∙◌}
 use Rattle.std.specs.List.{All}
 use Rattle.std.specs.FinMap.Entries.{find}
-use Rattle.std.proofs.lemmas.Bool.{cases_eq}
 use Rattle.std.proofs.lemmas.Option.{slice_get_within, slice_get-get_or}
 use Rattle.eco_ids.specs.World.{Record}
 use Rattle.eco_ids.specs.declared.entity.Entity.{Entity}
@@ -31,8 +30,9 @@ use Rattle.eco_store.proofs.Newborn.{is_borne-map}
 use Rattle.eco_store.proofs.StoreChanges.{place_from_seat, placed_record, seat_there, read_record, row_within, held_there}
 use Rattle.eco_ids.proofs.Lists.{slice_get-set_there, slice_get-set_other}
 use Rattle.eco_ids.proofs.States.{living_at, record_at}
-use Rattle.eco_store.proofs.Views.{alike_set, changed_at, read_at, seen_alike}
+use Rattle.eco_store.proofs.Views.{alike_set, at_each, changed_at, read_at, seen_alike}
 use Rattle.std.proofs.lemmas.List.{map-set}
+use Rattle.eco_store.proofs.SeatChanges.{rewritten_seated, who}
 
 -- ---- readers
 
@@ -96,59 +96,24 @@ module _ (w : Indexed Registration) (s s1 : List (Option TableState)) (e : Entit
   new_there = ap (λ xs. slice_get xs p.row) sets.changed ∙ slice_get-set_there rows p.row new_row old_row old_there
 
   elsewhere : (n k : ℕ) → (n ≡ p.table → k ≡ p.row → ⊥) → row_at s1 n k ≡ row_at s n k
-  elsewhere n k apart =
-      elim (cases_eq n p.table) [
-        | inl here ↦
-            ap (λ m. row_at s1 m k) here ∙ ap (λ xs. slice_get xs k) sets.changed
-            ∙ slice_get-set_other rows p.row k new_row (apart here) ∙ sym (ap (λ m. row_at s m k) here)
-        | inr other ↦ ap (λ xs. slice_get xs k) (sets.others n other)
-      ]
+  elsewhere =
+      at_each p.table (λ n. (k : ℕ) → (n ≡ p.table → k ≡ p.row → ⊥) → row_at s1 n k ≡ row_at s n k)
+      (λ k apart. ap (λ xs. slice_get xs k) sets.changed ∙ slice_get-set_other rows p.row k new_row (apart refl))
+      (λ n other k apart. ap (λ xs. slice_get xs k) (sets.others n other))
 
   seat : seat_at w e.index ≡ Some (seat_of e p.table p.row)
   seat = seat_there w e p own
 
-  -- a row is still there, and its entity with it
-  still : (n k : ℕ) (r : TableRow) → row_at s n k ≡ Some r → (x : TableRow) × (row_at s1 n k ≡ Some x) × (x.entity ≡ r.entity)
-  still n k r h =
-      elim (cases_eq n p.table) [
-        | inr other ↦ (r, elsewhere n k (λ a b. other a) ∙ h, refl)
-        | inl in_table ↦ elim (cases_eq k p.row) [
-          | inr other ↦ (r, elsewhere n k (λ a b. other b) ∙ h, refl)
-          | inl at_row ↦ (
-            new_row,
-            (λ t. row_at s1 (in_table t) (at_row t)) ∙ new_there,
-            ap (λ (x : TableRow). x.entity) (one_some (row_at s p.table p.row) old_row r old_there (sym (λ t. row_at s (in_table t) (at_row t)) ∙ h)),
-          )
-        ]
-      ]
-
-  was : (n k : ℕ) (x : TableRow) → row_at s1 n k ≡ Some x → (r : TableRow) × (row_at s n k ≡ Some r) × (r.entity ≡ x.entity)
-  was n k x h =
-      elim (cases_eq n p.table) [
-        | inr other ↦ (x, sym (elsewhere n k (λ a b. other a)) ∙ h, refl)
-        | inl in_table ↦ elim (cases_eq k p.row) [
-          | inr other ↦ (x, sym (elsewhere n k (λ a b. other b)) ∙ h, refl)
-          | inl at_row ↦ (
-            old_row,
-            (λ t. row_at s (in_table t) (at_row t)) ∙ old_there,
-            ap (λ (y : TableRow). y.entity) (one_some (row_at s1 p.table p.row) new_row x new_there (sym (λ t. row_at s1 (in_table t) (at_row t)) ∙ h)),
-          )
-        ]
-      ]
+  -- each row has its entity still
+  entities_same : (n k : ℕ) → who (row_at s1 n k) ≡ who (row_at s n k)
+  entities_same =
+      at_each p.table (λ n. (k : ℕ) → who (row_at s1 n k) ≡ who (row_at s n k))
+      (at_each p.row (λ k. who (row_at s1 p.table k) ≡ who (row_at s p.table k)) (ap who new_there ∙ sym (ap who old_there))
+      (λ k other. ap who (elsewhere p.table k (λ a. other))))
+      (λ n other k. ap who (elsewhere n k (λ a b. other a)))
 
   pub written_store : IsStore w s1
-  written_store = record {
-    seated = record {
-      there = λ j q h.
-          let old = store.seated.there j q h in
-          let now = still q.slot q.row old.0 old.1 in
-          (now.0, now.1, now.2 ∙ old.2);
-      back = λ n k x h.
-          let old = was n k x h in
-          sym (ap (λ (f : Entity). seat_at w f.index) old.2) ∙ store.seated.back n k old.0 old.1 ∙ ap (λ (f : Entity). Some (seat_of f n k)) old.2;
-    };
-    placed = store.placed;
-  }
+  written_store = record { seated = rewritten_seated (seat_at w) (row_at s) (row_at s1) entities_same store.seated; placed = store.placed }
 
   others_seen : (j : ℕ) → j ≢ e.index → (o : Option Seat) → seat_at w j ≡ o → option_map (seen (row_at s1)) o ≡ option_map (seen (row_at s)) o
   others_seen j other None h = refl

@@ -1,6 +1,5 @@
 use Rattle.std.proofs.Common.{sym, subst, ◌∙◌}
 use Rattle.eco_store.specs.Retyping.{after_changes, IsOneWay}
-use Rattle.eco_store.specs.Transfers.{AreNamed}
 use Rattle.eco_store.proofs.Thinning.{plan_thinned, room_thinned, same_changes}
 use Rattle.eco_store.proofs.layout.Layout.carry_out.Goals as goal
 

@@ -7,7 +7,7 @@ use Rattle.eco_store.specs.Staying.{all_staying}
 use Rattle.eco_store.specs.Store.{read, with_type}
 use Rattle.eco_store.proofs.Clearing.{unplaced_dead}
 use Rattle.eco_store.proofs.Coming.{changed_dead}
-use Rattle.eco_store.proofs.Laid.{carries_none, laid_alike}
+use Rattle.eco_store.proofs.Laid.{laid_alike}
 use Rattle.eco_store.proofs.Rowless.{rowless_beside}
 use Rattle.eco_store.proofs.Stepping.{own_again, standing_type}
 use Rattle.eco_store.proofs.Values.{alive_same}

@@ -1,7 +1,7 @@
 use Rattle.std.proofs.Common.{◌∙◌, arith}
 use Rattle.std.proofs.lemmas.Result.{err_from_is_err_and}
 use Rattle.eco_index.specs.Edges.{toggled}
-use Rattle.eco_archetypes.proofs.ArchetypeLemmas.{there_as_typed, typed_table}
+use Rattle.eco_archetypes.proofs.ArchetypeLemmas.{typed_table}
 use Rattle.eco_ids.proofs.Results.{err_says}
 use Rattle.eco_ids.specs.Indices.{changed}
 use Rattle.eco_store.specs.Layout.{seen}

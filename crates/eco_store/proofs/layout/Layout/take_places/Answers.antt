@@ -1,5 +1,5 @@
 use Rattle.std.proofs.Common.{take, length, get_or, refl, ap, ◌∙◌, subst, sym, arith}
-use Rattle.std.proofs.lemmas.List.{take_all, take_more}
+use Rattle.std.proofs.lemmas.List.{take_more}
 use Rattle.eco_store.specs.Moving.{HasRoomFor}
 use Rattle.eco_store.specs.Staying.{all_staying}
 use Rattle.eco_store.proofs.Coming.{place_more, room_none}

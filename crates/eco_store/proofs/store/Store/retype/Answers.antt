@@ -1,4 +1,4 @@
-use Rattle.std.proofs.Common.{◌≡◌, false, true≢false, List, Option, Some, option_map, refl, sym, ap, ◌∙◌, unwrap_or}
+use Rattle.std.proofs.Common.{◌≡◌, false, true≢false, List, Option, Some, option_map, sym, ap, ◌∙◌, unwrap_or}
 use Rattle.std.specs.Option.{option_copied}
 use Rattle.std.proofs.lemmas.Result.{IfOk-weaker}
 use Rattle.eco_ids.specs.declared.id.Id.{Id}
@@ -8,9 +8,8 @@ use Rattle.eco_tables.specs.Tables.{slot_of, no_table}
 use Rattle.eco_index.specs.TypeMap.{same_ids}
 use Rattle.eco_archetypes.specs.Archetypes.{type_at}
 use Rattle.eco_store.specs.Layout.{seen}
-use Rattle.eco_store.proofs.Laid.{sought_err, sought_laid, sought_ok, still_settled}
+use Rattle.eco_store.proofs.Laid.{sought_laid}
 use Rattle.eco_store.proofs.Stepping.{own_again}
-use Rattle.eco_store.specs.Store.{with_type}
 use Rattle.eco_store.proofs.SeatChanges.{one_some}
 use Rattle.eco_store.proofs.StoreChanges.{some_from_copied}
 use Rattle.eco_store.proofs.store.Store.retype.Goals as goal

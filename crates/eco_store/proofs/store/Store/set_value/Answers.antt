@@ -1,4 +1,4 @@
-use Rattle.std.proofs.Common.{is_some, length, unwrap_or, sym, ap, ◌∙◌}
+use Rattle.std.proofs.Common.{List, is_some, length, unwrap_or, sym, ap, ◌∙◌}
 use Rattle.std.proofs.lemmas.List.{length-set}
 use Rattle.std.specs.FinMap.Entries.{find}
 use Rattle.eco_ids.specs.Order.{id_cmp}
@@ -10,6 +10,8 @@ use Rattle.eco_store.proofs.Needing.{fits_in}
 use Rattle.eco_store.proofs.Rowless.{rowless_rewritten}
 use Rattle.eco_store.proofs.Values.{held_read, written_store, written_read}
 use Rattle.eco_store.proofs.store.Store.set_value.Goals as goal
+use Rattle.eco_ids.specs.declared.id.Id.{Id}
+use Rattle.eco_ids.specs.declared.value.Value.{Value}
 
 pub set_value-requires-clause-fits : goal.set_value-requires-clause-fits
 set_value-requires-clause-fits c =
@@ -36,20 +38,18 @@ invariant_of-self c =
       done = c.self.invariant.done;
     }
 
-pub returns-clause-written : goal.returns-clause-written
-returns-clause-written c =
+pub returns : goal.returns
+returns c =
     let l = c.self.inside.layout in
     let p = c.place_of-place.result in
-    rw (← c.self.view_is)
-    (written_read l.entities l.archetypes _ c.args.e p (λ held. with_held held c.args.id c.args.value) c.self.invariant.laid.store
-    c.place_of-place.ensures.own (sets_rows l.archetypes _ p.table _ c.set_value.ensures.written))
-
-pub returns-clause-had : goal.returns-clause-had
-returns-clause-had c =
-    let l = c.self.inside.layout in
-    let p = c.place_of-place.result in
-    rw (← c.self.view_is)
-    (c.set_value.ensures.had
-    ∙ sym (ap (λ held. is_some (find id_cmp c.args.id held))
-    (held_read l.entities l.archetypes _ c.args.e p (λ held. with_held held c.args.id c.args.value) c.self.invariant.laid.store
-    c.place_of-place.ensures.own (sets_rows l.archetypes _ p.table _ c.set_value.ensures.written))))
+    let sets = sets_rows l.archetypes _ p.table _ c.set_value.ensures.written in
+    let held = λ (held : List (Id × Value)). with_held held c.args.id c.args.value in
+    record {
+      written =
+          rw (← c.self.view_is) (written_read l.entities l.archetypes _ c.args.e p held c.self.invariant.laid.store c.place_of-place.ensures.own sets);
+      had =
+          rw (← c.self.view_is)
+          (c.set_value.ensures.had
+          ∙ sym (ap (λ held. is_some (find id_cmp c.args.id held))
+          (held_read l.entities l.archetypes _ c.args.e p held c.self.invariant.laid.store c.place_of-place.ensures.own sets)));
+    }

@@ -20,21 +20,18 @@ use Rattle.eco_store.specs.Layout.{rows_in, PutsRow}
 use Rattle.eco_store.specs.Seats.{IsSeated, seen, held_of}
 use Rattle.eco_archetypes.specs.Archetypes.{row_at, SameRows}
 use Rattle.eco_store.specs.Store.{CreatesRecord, record_name, record_for, read, seat_in, seat_at, HasPlace, IsStore, newborn}
-use Rattle.std.proofs.lemmas.Option.{slice_get-map, slice_get_within}
+use Rattle.std.proofs.lemmas.Option.{slice_get_within}
 use Rattle.std.proofs.lemmas.Bool.Decides.{Decides-ltb}
 use Rattle.eco_store.proofs.RowChanges.{rows_pushed}
 use Rattle.eco_store.proofs.SeatChanges.{Pushed, pushed_change}
 use Rattle.eco_ids.proofs.Lists.{slice_get-set_there, slice_get-set_other, map-replicate}
 use Rattle.eco_ids.proofs.States.{record_at}
-use Rattle.eco_store.proofs.Views.{alike_but, at_each, alike_set, bare, read_at, seen_alike}
+use Rattle.eco_store.proofs.Views.{alike_but, alike_set, at_each, bare, each_state, read_at, seen_alike}
 use Rattle.eco_store.proofs.Newborn.{create_done, create_made, create_refused, refused, Vacant, born_here, born_other, born_limit, next_is}
 use Rattle.eco_store.proofs.StoreChanges.{same_read}
 
 no_seat : (o : Option (IndexState Registration)) → Vacant o → seat_in o ≡ None
-no_seat None v = refl
-no_seat (Some Retired) v = refl
-no_seat (Some (Free g)) v = refl
-no_seat (Some (Living g r)) v = absurd v
+no_seat = each_state (λ o. Vacant o → seat_in o ≡ None) (λ v. refl) (λ v. refl) (λ g v. refl) (λ g r v. absurd v)
 
 -- ---- an entity comes to live, and gets a row of its own
 module _ (w w1 : Indexed Registration) (s s1 : List (Option TableState)) (e : Entity) (place : Place) (ids : List Id) (name : Option (List ℕ))
@@ -104,14 +101,10 @@ free_is {A} w e = by (slice_get w.indices e.index)
     by (Some (Living g r)) h = absurd (cc)
 
 pub is_free_at-read : (w : Indexed Registration) (s : List (Option TableState)) (e : Entity) → is_free_at (read w s) e ≡ is_free_at w e
-is_free_at-read w s e = ap (λ o. is_free_in o e.generation) (slice_get-map (map_state (record_for (row_at s))) w.indices e.index)
-    ∙ by (slice_get w.indices e.index)
-  where
-    by : (o : Option (IndexState Registration)) → is_free_in (option_map (map_state (record_for (row_at s))) o) e.generation ≡ is_free_in o e.generation
-    by None = refl
-    by (Some Retired) = refl
-    by (Some (Free g)) = refl
-    by (Some (Living g r)) = refl
+is_free_at-read w s e =
+    ap (λ o. is_free_in o e.generation) (read_at w s e.index _ refl)
+    ∙ each_state (λ o. is_free_in (option_map (map_state (record_for (row_at s))) o) e.generation ≡ is_free_in o e.generation) refl refl (λ g. refl)
+    (λ g r. refl) (slice_get w.indices e.index)
 
 -- ---- more indices become known
 

@@ -60,6 +60,14 @@ module _ (l : Layout) (s : List (Option TableState)) (rows : SameRows l.archetyp
         by (Ok n) tidy = laid_alike l s l.staying _ _ laid rows widths tidy
         by (Err e) tidy = laid_alike l s l.staying _ _ laid rows widths tidy
 
+  -- none was found
+  pub sought_settled : IsSettled l → StillCover l.entities l.archetypes s → ((slots : List ℕ) → RowlessIn l.archetypes slots → RowlessIn s slots)
+      → IsSettled sought
+  sought_settled settled widths rowless = record {
+    laid = laid_alike l s l.staying _ _ settled.laid rows widths (rowless (all_staying l.staying) settled.laid.tidy);
+    done = settled.done;
+  }
+
   -- who went there has the type
   module _ {A E : Type 0} (r : Result A E) (v : Indexed Record) where
     pub sought_ok : (e : Entity) (ids : List Id) (f : Record → Record) → changed (seen l) e (with_type ids) ≡ changed (seen l) e f

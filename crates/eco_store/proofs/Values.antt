@@ -11,7 +11,7 @@ use Rattle.eco_ids.specs.declared.id.Id.{Id}
 use Rattle.eco_ids.specs.declared.refusal.Refusal.{Refusal}
 use Rattle.eco_ids.specs.declared.refusal.Refusal.TheVariants.{NotAlive, Reserved, BadName, NameTaken}
 use Rattle.eco_ids.specs.declared.value.Value.{Value}
-use Rattle.eco_ids.specs.Indices.{changed, change_kept, Indexed, IndexState, Retired, Free, Living, record_in, record_of, is_alive, map_state}
+use Rattle.eco_ids.specs.Indices.{changed, change_kept, Indexed, Living, record_in, record_of, is_alive, map_state}
 use Rattle.eco_ids.specs.Names.{is_proper, is_same_name}
 use Rattle.eco_ids.specs.Order.{id_cmp}
 use Rattle.eco_ids.specs.Outcome.{Meets, is_out_of_memory, first_refusal, Answers, Refuses}
@@ -30,7 +30,7 @@ use Rattle.eco_store.proofs.Newborn.{is_borne-map}
 use Rattle.eco_store.proofs.StoreChanges.{place_from_seat, placed_record, seat_there, read_record, row_within, held_there}
 use Rattle.eco_ids.proofs.Lists.{slice_get-set_there, slice_get-set_other}
 use Rattle.eco_ids.proofs.States.{living_at, record_at}
-use Rattle.eco_store.proofs.Views.{alike_set, at_each, changed_at, read_at, seen_alike}
+use Rattle.eco_store.proofs.Views.{alike_set, at_each, changed_at, each_state, read_at, seen_alike}
 use Rattle.std.proofs.lemmas.List.{map-set}
 use Rattle.eco_store.proofs.SeatChanges.{rewritten_seated, who}
 
@@ -156,19 +156,14 @@ module _ (w : Indexed Registration) (s s1 : List (Option TableState)) (e : Entit
 record_of-read : (w : Indexed Registration) (s : List (Option TableState)) (e : Entity) →
     record_of (read w s) e ≡ option_map (record_for (row_at s)) (record_of w e)
 record_of-read w s e =
-    ap (λ o. record_in o e.generation) (read_at w s e.index _ refl) ∙ by (slice_get w.indices e.index)
+    ap (λ o. record_in o e.generation) (read_at w s e.index _ refl)
+    ∙ each_state (λ o. record_in (option_map (map_state (record_for (row_at s))) o) e.generation ≡ option_map (record_for (row_at s)) (record_in o e.generation))
+    refl refl (λ g. refl) (λ g. with_test (e.generation == g)) (slice_get w.indices e.index)
   where
     with_test : (b : Bool) (r : Registration) → ◌≡◌ {A = Option Record} (if b then Some (record_for (row_at s) r) else None)
         (option_map (record_for (row_at s)) (if b then Some r else None))
     with_test true r = refl
     with_test false r = refl
-
-    by : (o : Option (IndexState Registration)) → record_in (option_map (map_state (record_for (row_at s))) o) e.generation
-        ≡ option_map (record_for (row_at s)) (record_in o e.generation)
-    by None = refl
-    by (Some Retired) = refl
-    by (Some (Free g)) = refl
-    by (Some (Living g r)) = with_test (e.generation == g) r
 
 pub alive_same : (w : Indexed Registration) (s : List (Option TableState)) (e : Entity) → is_alive (read w s) e ≡ is_alive w e
 alive_same w s e = ap is_some (record_of-read w s e) ∙ by (record_of w e)

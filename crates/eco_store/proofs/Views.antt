@@ -62,6 +62,14 @@ changed_at {A} w e f Q same there j = by (record_of w e) refl
         (subst (Q (Some (Living e.generation r))) (sym (slice_get-set_there w.indices e.index now _ was)) (there e.generation r)))
         (λ k other. subst (Q (slice_get w.indices k)) (sym (slice_get-set_other w.indices e.index k now other)) (same _)) j
 
+-- what holds of an index where nobody lives, and of one where somebody does, holds of each
+pub each_state : {A : Type 0} (C : Option (IndexState A) → Type 0) → C None → C (Some Retired) → ((g : ℕ) → C (Some (Free g)))
+    → ((g : ℕ) (r : A) → C (Some (Living g r))) → (o : Option (IndexState A)) → C o
+each_state C none retired free living None = none
+each_state C none retired free living (Some Retired) = retired
+each_state C none retired free living (Some (Free g)) = free g
+each_state C none retired free living (Some (Living g r)) = living g r
+
 -- who died leaves the index free, or retired
 pub raised_either : {A : Type 0} (g : ℕ) (C : IndexState A → Type 0) → ((h : ℕ) → C (Free h)) → C Retired → C (raised g)
 raised_either g C free retired = by (nat_lt g 65535)

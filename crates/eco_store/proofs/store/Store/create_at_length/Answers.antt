@@ -7,7 +7,7 @@ use Rattle.eco_store.specs.Layout.{rows_in}
 use Rattle.eco_store.specs.Staying.{all_staying}
 use Rattle.eco_store.specs.Store.{StoreState}
 use Rattle.eco_store.proofs.BirthChanges.{created_alive, still_created, still_refused}
-use Rattle.eco_store.proofs.Laid.{found_laid, found_puts, laid_alike, seen_alike, still_settled}
+use Rattle.eco_store.proofs.Laid.{found_laid, found_puts, seen_alike, sought_settled, still_settled}
 use Rattle.eco_store.proofs.LaidRows.{rows_alike}
 use Rattle.eco_store.proofs.Needing.{called}
 use Rattle.eco_store.proofs.Newborn.{refuses}
@@ -30,13 +30,7 @@ returns-in_default c = record {
 -- no room is had
 pub invariant_of-self : goal.invariant_of-self
 invariant_of-self c =
-    let l = c.self.inside.layout in
-    record {
-      laid =
-          laid_alike l _ l.staying _ _ c.self.invariant.laid c.room_for.ensures.rows c.room_for.ensures.widths
-          (c.in_default-room_for.ensures.rowless (all_staying l.staying) c.self.invariant.laid.tidy);
-      done = c.self.invariant.done;
-    }
+    sought_settled c.self.inside.layout _ c.room_for.ensures.rows c.self.invariant c.room_for.ensures.widths c.in_default-room_for.ensures.rowless
 
 pub returns-in_default-room_for : goal.returns-in_default-room_for
 returns-in_default-room_for c = record {

@@ -6,7 +6,7 @@ use Rattle.eco_store.proofs.BirthChanges as births
 use Rattle.eco_entities.specs.declared.place.Place.{Place}
 use Rattle.eco_store.specs.Layout.{rows_in}
 use Rattle.eco_store.specs.Staying.{all_staying}
-use Rattle.eco_store.proofs.Laid.{found_laid, found_puts, laid_alike}
+use Rattle.eco_store.proofs.Laid.{found_laid, found_puts, sought_settled}
 use Rattle.eco_store.proofs.LaidRows.{rows_alike}
 use Rattle.eco_entities.specs.Runs.{MakeAlive}
 use Rattle.eco_store.proofs.Needing.{called}
@@ -74,10 +74,4 @@ returns c = record {
 -- no room is had
 pub invariant_of-self : goal.invariant_of-self
 invariant_of-self c =
-    let l = c.self.inside.layout in
-    record {
-      laid =
-          laid_alike l _ l.staying _ _ c.self.invariant.laid c.room_for.ensures.rows c.room_for.ensures.widths
-          (c.in_err-table.ensures.rowless (all_staying l.staying) c.self.invariant.laid.tidy);
-      done = c.self.invariant.done;
-    }
+    sought_settled c.self.inside.layout _ c.room_for.ensures.rows c.self.invariant c.room_for.ensures.widths c.in_err-table.ensures.rowless

@@ -157,7 +157,8 @@ record_of-read : (w : Indexed Registration) (s : List (Option TableState)) (e : 
     record_of (read w s) e ≡ option_map (record_for (row_at s)) (record_of w e)
 record_of-read w s e =
     ap (λ o. record_in o e.generation) (read_at w s e.index _ refl)
-    ∙ each_state (λ o. record_in (option_map (map_state (record_for (row_at s))) o) e.generation ≡ option_map (record_for (row_at s)) (record_in o e.generation))
+    ∙ each_state
+    (λ o. record_in (option_map (map_state (record_for (row_at s))) o) e.generation ≡ option_map (record_for (row_at s)) (record_in o e.generation))
     refl refl (λ g. refl) (λ g. with_test (e.generation == g)) (slice_get w.indices e.index)
   where
     with_test : (b : Bool) (r : Registration) → ◌≡◌ {A = Option Record} (if b then Some (record_for (row_at s) r) else None)

@@ -7,7 +7,7 @@ use Rattle.eco_store.specs.Staying.{all_staying}
 use Rattle.eco_store.specs.Store.{read, with_type}
 use Rattle.eco_store.proofs.Clearing.{unplaced_dead}
 use Rattle.eco_store.proofs.Coming.{changed_dead}
-use Rattle.eco_store.proofs.Laid.{laid_alike}
+use Rattle.eco_store.proofs.Laid.{carries_none, laid_alike}
 use Rattle.eco_store.proofs.Rowless.{rowless_beside}
 use Rattle.eco_store.proofs.Stepping.{own_again, standing_type}
 use Rattle.eco_store.proofs.Values.{alive_same}
@@ -22,6 +22,9 @@ returns-in_default-clause-seen c =
     sym (changed_dead (read w s) e (with_type (table_in s c.args.to).ids)
     (alive_same w s e ∙ unplaced_dead w s e c.requires.laid.store (sym c.place_of.ensures ∙ c.in_default.is)))
 
+pub returns-in_default-clause-carries : goal.returns-in_default-clause-carries
+returns-in_default-clause-carries c = carries_none c.args.self.now c.requires.laid c.args.to
+
 -- who stands there holds what it held
 pub returns-then-place-to-clause-seen : goal.returns-then-place-to-clause-seen
 returns-then-place-to-clause-seen c =
@@ -35,9 +38,15 @@ returns-then-place-to-clause-seen c =
     (standing_type l.entities s c.args.e c.in-Some.place c.requires.laid.store own had ∙ ap (λ n. Some (table_in s n).ids) c.if-place-to.true)
     (subst (λ xs. IsTrue (is_ascending id_cmp xs)) ids c.as_slice-ids.ensures.ascending)
 
+pub returns-then-place-to-clause-carries : goal.returns-then-place-to-clause-carries
+returns-then-place-to-clause-carries c = carries_none c.args.self.now c.requires.laid c.args.to
+
 -- the row goes
 pub carry-requires-clause-laid : goal.carry-requires-clause-laid
 carry-requires-clause-laid c =
     let l = c.args.self.now in
     laid_alike l l.archetypes l.staying _ _ c.requires.laid (λ n k. refl) (λ was. was)
     (rowless_beside l.archetypes c.args.to (all_staying l.staying) c.requires.laid.tidy)
+
+pub carry-requires-clause-own : goal.carry-requires-clause-own
+carry-requires-clause-own c = sym c.place_of.ensures ∙ c.in-Some.is

@@ -2,7 +2,7 @@ use Rattle.std.proofs.Common.{◌≡◌, ℕ, ◌+◌, ◌<◌, List, ◌∷◌,
 use Rattle.std.proofs.Common.{take, drop, get_or, length, refl, sym, ap, ◌∙◌, subst, arith, add-one}
 use Rattle.std.specs.List.{All, list_any}
 use Rattle.std.proofs.Math.Seq.{drop-cons}
-use Rattle.std.proofs.lemmas.List.{take_more}
+use Rattle.std.proofs.lemmas.List.{take_all, take_more}
 use Rattle.std.proofs.lemmas.List.Elements.{All-drop}
 use Rattle.std.proofs.lemmas.List.Sums.{fold-append}
 use Rattle.eco_tables.specs.Tables.{table_in}
@@ -76,3 +76,8 @@ loop-place-preserved c =
           ∙ ap (λ w. after_move w m) was.seen ∙ sym (fold-append after_move w0 (take i ms) (m ∷ []))
           ∙ sym (ap (after_moves w0) more);
     }
+
+pub returns-clause-seen : goal.returns-clause-seen
+returns-clause-seen c =
+    c.loop-place.invariant.seen
+    ∙ ap (after_moves (read c.args.self.now.entities c.args.self.now.archetypes)) (take_all c.loop-place.place c.args.moves.now c.loop-place-test.false)

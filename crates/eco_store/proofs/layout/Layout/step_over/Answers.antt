@@ -1,7 +1,7 @@
 use Rattle.std.proofs.Common.{◌∙◌, arith}
 use Rattle.std.proofs.lemmas.Result.{err_from_is_err_and}
 use Rattle.eco_index.specs.Edges.{toggled}
-use Rattle.eco_archetypes.proofs.ArchetypeLemmas.{typed_table}
+use Rattle.eco_archetypes.proofs.ArchetypeLemmas.{there_as_typed, typed_table}
 use Rattle.eco_ids.proofs.Results.{err_says}
 use Rattle.eco_ids.specs.Indices.{changed}
 use Rattle.eco_store.specs.Layout.{seen}
@@ -10,6 +10,9 @@ use Rattle.eco_store.proofs.Coupled.{move_leaves}
 use Rattle.eco_store.proofs.Laid.{plans_seen}
 use Rattle.eco_store.proofs.Stepping.{leads_to}
 use Rattle.eco_store.proofs.layout.Layout.step_over.Goals as goal
+
+pub go_to-requires-clause-there : goal.go_to-requires-clause-there
+go_to-requires-clause-there c = there_as_typed _ c.in_ok-to.to _ c.in_ok-to.ensures.typed
 
 pub go_to-requires-clause-room : goal.go_to-requires-clause-room
 go_to-requires-clause-room c = let two = c.in_ok-to.ensures.room in omega (arith, two)

@@ -2,7 +2,7 @@ use Rattle.std.proofs.Common.{◌∙◌}
 use Rattle.eco_index.specs.Edges.{exchanged}
 use Rattle.eco_store.specs.Layout.{seen}
 use Rattle.eco_store.specs.Store.{with_exchanged}
-use Rattle.eco_store.proofs.Laid.{sought_laid, sought_ok}
+use Rattle.eco_store.proofs.Laid.{sought_err, sought_laid, sought_ok, still_settled}
 use Rattle.eco_store.proofs.Stepping.{has_typed, leads_to}
 use Rattle.eco_store.proofs.store.Store.exchange.Goals as goal
 
@@ -19,6 +19,9 @@ carry_to-requires-clause-laid c =
     let tables = c.exchange-found.ensures in
     sought_laid c.self.inside.layout _ tables.rows c.exchange-found.result tables.rowless tables.widths c.self.invariant.laid
 
+pub invariant_of-self : goal.invariant_of-self
+invariant_of-self c = still_settled c.self.inside.layout _ c.carry_to.ensures.staying c.self.invariant c.carry_to.ensures.laid
+
 pub returns-clause-ok : goal.returns-clause-ok
 returns-clause-ok c =
     let l = c.self.inside.layout in
@@ -26,3 +29,7 @@ returns-clause-ok c =
     (sought_ok l _ c.exchange-found.ensures.rows c.carry_to.result _ c.args.e _ (with_exchanged c.args.leaving c.args.coming)
     (leads_to (seen l) c.args.e _ c.place_of-place.ensures.typed (λ ids. exchanged ids c.args.leaving c.args.coming))
     (c.carry_to.ensures.ok _ c.exchange-found.ensures.typed))
+
+pub returns-clause-err : goal.returns-clause-err
+returns-clause-err c =
+    rw (← c.self.view_is) (sought_err c.self.inside.layout _ c.exchange-found.ensures.rows c.carry_to.result _ c.carry_to.ensures.err)

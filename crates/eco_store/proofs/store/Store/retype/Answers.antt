@@ -1,4 +1,4 @@
-use Rattle.std.proofs.Common.{◌≡◌, false, true≢false, List, Option, Some, option_map, sym, ap, ◌∙◌, unwrap_or}
+use Rattle.std.proofs.Common.{◌≡◌, false, true≢false, List, Option, Some, option_map, refl, sym, ap, ◌∙◌, unwrap_or}
 use Rattle.std.specs.Option.{option_copied}
 use Rattle.std.proofs.lemmas.Result.{IfOk-weaker}
 use Rattle.eco_ids.specs.declared.id.Id.{Id}
@@ -8,8 +8,9 @@ use Rattle.eco_tables.specs.Tables.{slot_of, no_table}
 use Rattle.eco_index.specs.TypeMap.{same_ids}
 use Rattle.eco_archetypes.specs.Archetypes.{type_at}
 use Rattle.eco_store.specs.Layout.{seen}
-use Rattle.eco_store.proofs.Laid.{sought_laid}
+use Rattle.eco_store.proofs.Laid.{sought_err, sought_laid, sought_ok, still_settled}
 use Rattle.eco_store.proofs.Stepping.{own_again}
+use Rattle.eco_store.specs.Store.{with_type}
 use Rattle.eco_store.proofs.SeatChanges.{one_some}
 use Rattle.eco_store.proofs.StoreChanges.{some_from_copied}
 use Rattle.eco_store.proofs.store.Store.retype.Goals as goal
@@ -48,6 +49,19 @@ carry_to-requires-clause-apart c =
     let differ = rw (c.as_slice.ensures.ids ∙ c.type_list.ensures.ids, c.as_slice-2.ensures.ids) at (sym c.eq.ensures ∙ c.if-eq.false) in
     IfOk-weaker c.room_for-found.result _ _ (λ to typed same. two_types own _ differ (type_at s1 n) had (ap (type_at s1) same ∙ typed))
     c.room_for-found.ensures.typed
+
+pub invariant_of-self : goal.invariant_of-self
+invariant_of-self c = still_settled c.self.inside.layout _ c.carry_to.ensures.staying c.self.invariant c.carry_to.ensures.laid
+
+pub returns-clause-ok : goal.returns-clause-ok
+returns-clause-ok c =
+    rw (← c.self.view_is)
+    (sought_ok c.self.inside.layout _ c.room_for-found.ensures.rows c.carry_to.result _ c.args.e c.args.type_list.now (with_type c.args.type_list.now)
+    refl (c.carry_to.ensures.ok _ c.room_for-found.ensures.typed))
+
+pub returns-clause-err : goal.returns-clause-err
+returns-clause-err c =
+    rw (← c.self.view_is) (sought_err c.self.inside.layout _ c.room_for-found.ensures.rows c.carry_to.result _ c.carry_to.ensures.err)
 
 pub returns-clause-own : goal.returns-clause-own
 returns-clause-own c =

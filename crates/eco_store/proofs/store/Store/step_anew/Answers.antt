@@ -1,23 +1,43 @@
-use Rattle.std.proofs.Common.{◌≡◌, OnErr, OnOk, unwrap_or, subst, ap, ◌∙◌}
+use Rattle.std.proofs.Common.{◌≡◌, IsSome, OnErr, OnOk, Some, unwrap_or, subst, sym, ap, ◌∙◌}
 use Rattle.std.proofs.lemmas.Result.{err_from_is_err_and}
 use Rattle.eco_ids.specs.Indices.{changed}
+use Rattle.eco_entities.specs.Registration.{own_place}
 use Rattle.eco_tables.specs.Tables.{no_table, table_in}
 use Rattle.eco_index.specs.Edges.{toggled}
 use Rattle.eco_archetypes.proofs.ArchetypeLemmas.{rows_from_slots, then_rows}
 use Rattle.eco_store.specs.Layout.{seen}
 use Rattle.eco_store.specs.Store.{read, with_toggled, with_type}
 use Rattle.eco_store.proofs.Coupled.{not_turned}
-use Rattle.eco_store.proofs.Laid.{sought_err, sought_laid, sought_ok}
+use Rattle.eco_store.proofs.Laid.{sought_err, sought_laid, sought_ok, still_settled}
 use Rattle.eco_store.proofs.Stepping.{leads_to}
 use Rattle.eco_store.proofs.store.Store.step_anew.Goals as goal
 
 pub returns-in_err-turn-clause-ok : goal.returns-in_err-turn-clause-ok
 returns-in_err-turn-clause-ok c = let p = err_from_is_err_and c.from_residual.result c.from_residual.ensures.1 in rw p.1 tt
 
+pub step-found-requires : goal.step-found-requires
+step-found-requires c =
+    subst IsSome (sym (not_turned _ _ _ c.if-branch.false c.in_ok-turn.ensures.took c.place_of-place.result.table)) c.place_of-place.ensures.there
+
 pub carry_to-requires-clause-laid : goal.carry_to-requires-clause-laid
 carry_to-requires-clause-laid c =
     let tables = c.step-found.ensures in
     sought_laid c.turn.new.self _ tables.rows c.step-found.result tables.rowless tables.widths c.turn.ensures.laid
+
+pub carry_to-requires-clause-own : goal.carry_to-requires-clause-own
+carry_to-requires-clause-own c =
+    subst (λ w. own_place w c.args.e ≡ Some c.place_of-place.result) (sym c.turn.ensures.entities) c.place_of-place.ensures.own
+
+pub invariant_of-self : goal.invariant_of-self
+invariant_of-self c = still_settled c.self.inside.layout _ c.turn.ensures.staying c.self.invariant c.turn.ensures.laid
+
+pub invariant_of-self-then-branch : goal.invariant_of-self-then-branch
+invariant_of-self-then-branch c = still_settled c.self.inside.layout _ c.turn.ensures.staying c.self.invariant c.turn.ensures.laid
+
+pub invariant_of-self-2 : goal.invariant_of-self-2
+invariant_of-self-2 c =
+    still_settled c.turn.new.self _ c.carry_to.ensures.staying
+    (still_settled c.self.inside.layout _ c.turn.ensures.staying c.self.invariant c.turn.ensures.laid) c.carry_to.ensures.laid
 
 pub returns-clause-ok : goal.returns-clause-ok
 returns-clause-ok c =

@@ -1,6 +1,6 @@
 use Rattle.std.proofs.Common.{◌≡◌, ◌+◌, ◌++◌, ◌∷◌, [], take, length, IsTrue, nat_eq, ap, refl, sym, ◌∙◌, subst, arith}
 use Rattle.std.specs.List.{All, list_any}
-use Rattle.std.proofs.lemmas.List.{take_more}
+use Rattle.std.proofs.lemmas.List.{take_all, take_more}
 use Rattle.std.proofs.lemmas.List.Elements.{All-nil, All-push}
 use Rattle.eco_store.specs.Moving.{AreTyped}
 use Rattle.eco_store.proofs.Coming.{typed_kept, typed_more}
@@ -20,8 +20,19 @@ loop-next-init c =
 pub returns-in_err-slot-clause-nothing : goal.returns-in_err-slot-clause-nothing
 returns-in_err-slot-clause-nothing c = λ none. let here = c.loop-next-test.true in let empty = ap length none in absurd (omega (arith, here, empty))
 
+pub returns-in_err-slot-clause-plans : goal.returns-in_err-slot-clause-plans
+returns-in_err-slot-clause-plans c = plans_then _ _ _ c.loop-next.invariant.plans c.target.ensures.plans
+
 pub returns-in_err-push-clause-nothing : goal.returns-in_err-push-clause-nothing
 returns-in_err-push-clause-nothing c = λ none. let here = c.loop-next-test.true in let empty = ap length none in absurd (omega (arith, here, empty))
+
+pub returns-in_err-push-clause-plans : goal.returns-in_err-push-clause-plans
+returns-in_err-push-clause-plans c = plans_then _ _ _ c.loop-next.invariant.plans c.target.ensures.plans
+
+pub returns-clause-typed : goal.returns-clause-typed
+returns-clause-typed c =
+    subst (λ ms. AreTyped c.loop-next.self.archetypes ms c.loop-next.slots.items) (take_all c.loop-next.next-index c.args.moves.now c.loop-next-test.false)
+    c.loop-next.invariant.typed
 
 pub loop-next-preserved : goal.loop-next-preserved
 loop-next-preserved c =

@@ -1,6 +1,6 @@
 use Rattle.std.proofs.Common.{◌≡◌, ℕ, ◌+◌, ◌++◌, ◌∷◌, [], take, IsTrue, nat_eq, ap, sym, ◌∙◌, subst}
 use Rattle.std.specs.List.{list_any}
-use Rattle.std.proofs.lemmas.List.{take_more}
+use Rattle.std.proofs.lemmas.List.{take_all, take_more}
 use Rattle.std.proofs.lemmas.List.Elements.{All-nil, All-push}
 use Rattle.eco_store.specs.declared.transfer.Transfer.{Transfer}
 use Rattle.eco_store.specs.Transfers.{AreNamed, IsPlan}
@@ -19,6 +19,22 @@ loop-change-init c =
           subst (AreNamed targets) none
           (All-nil (λ (t : Transfer). IsTrue (list_any (nat_eq t.from) targets) × IsTrue (list_any (nat_eq t.to) targets)));
     }
+
+pub returns-in_err-from-clause-plans : goal.returns-in_err-from-clause-plans
+returns-in_err-from-clause-plans c = plans_then _ _ _ c.loop-change.invariant.plans c.target.ensures.plans
+
+pub returns-in_err-to-clause-plans : goal.returns-in_err-to-clause-plans
+returns-in_err-to-clause-plans c =
+    plans_then _ _ _ c.loop-change.invariant.plans (plans_then _ _ _ c.target.ensures.plans c.target-in-loop-change.ensures.plans)
+
+pub returns-in_err-push-clause-plans : goal.returns-in_err-push-clause-plans
+returns-in_err-push-clause-plans c =
+    plans_then _ _ _ c.loop-change.invariant.plans (plans_then _ _ _ c.target.ensures.plans c.target-in-loop-change.ensures.plans)
+
+pub returns-clause-plan : goal.returns-clause-plan
+returns-clause-plan c =
+    subst (IsPlan c.loop-change.self.archetypes c.loop-change.transfers.items)
+    (take_all c.loop-change.change-index c.args.changes.now c.loop-change-test.false) c.loop-change.invariant.plan
 
 pub loop-change-preserved : goal.loop-change-preserved
 loop-change-preserved c =

@@ -2,6 +2,7 @@ use Rattle.std.proofs.Common.{◌++◌, sym, subst, ◌∙◌}
 use Rattle.std.proofs.lemmas.List.{append_assoc}
 use Rattle.eco_archetypes.specs.Archetypes.{RowlessIn, SameRows}
 use Rattle.eco_store.proofs.Laid.{done_idle, laid_alike, only_idle_stay}
+use Rattle.eco_store.proofs.StoreChanges.{same_read}
 use Rattle.eco_store.proofs.layout.Layout.forget.Goals as goal
 
 pub returns-clause-settled : goal.returns-clause-settled
@@ -25,3 +26,8 @@ returns-clause-settled c =
           (subst (RowlessIn s) (append_assoc p.gathered p.targets p.idle) c.requires.tidy))))));
       done = done_idle q p.idle c.clear.ensures;
     }
+
+pub returns-clause-same : goal.returns-clause-same
+returns-clause-same c =
+    same_read c.args.self.now.entities c.args.self.now.archetypes c.drop_each-2.new.self
+    (λ n k. c.drop_each-2.ensures.rows n k ∙ c.drop_each.ensures.rows n k)

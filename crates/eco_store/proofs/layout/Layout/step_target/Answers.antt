@@ -2,6 +2,7 @@ use Rattle.std.proofs.Common.{refl}
 use Rattle.eco_store.specs.Staying.{all_staying}
 use Rattle.eco_archetypes.proofs.ArchetypeLemmas.{then_rows}
 use Rattle.eco_store.proofs.Laid.{plans_same, plans_target}
+use Rattle.eco_store.proofs.Targets.{is_targeted}
 use Rattle.eco_store.proofs.layout.Layout.step_target.Goals as goal
 
 pub returns-in_err-to-clause-plans : goal.returns-in_err-to-clause-plans
@@ -23,3 +24,6 @@ returns-clause-plans c =
     let l = c.args.self.now in
     plans_target l c.requires.laid c.step.new.self c.add_target.new.self c.step.ensures.rows c.step.ensures.widths c.in_ok-to.to
     (c.in_ok-to.ensures.rowless (all_staying l.staying) c.requires.laid.tidy) c.in_default.ensures.ok
+
+pub returns-clause-named : goal.returns-clause-named
+returns-clause-named c = rw c.in_default.ensures.ok (is_targeted c.args.self.now.staying c.in_ok-to.to)

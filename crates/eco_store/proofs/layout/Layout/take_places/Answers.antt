@@ -1,5 +1,5 @@
 use Rattle.std.proofs.Common.{take, length, get_or, refl, ap, ◌∙◌, subst, sym, arith}
-use Rattle.std.proofs.lemmas.List.{take_more}
+use Rattle.std.proofs.lemmas.List.{take_all, take_more}
 use Rattle.eco_store.specs.Moving.{HasRoomFor}
 use Rattle.eco_store.specs.Staying.{all_staying}
 use Rattle.eco_store.proofs.Coming.{place_more, room_none}
@@ -24,6 +24,9 @@ returns-in_err-reserve_more-clause-plans c =
     (plans_same l c.loop-slot.invariant.plans.laid c.reserve_more.new.self l.staying c.reserve_more.ensures.rows (c.reserve_more.ensures.widths _)
     (c.reserve_more.ensures.rowless (all_staying l.staying) c.loop-slot.invariant.plans.laid.tidy) refl)
 
+pub returns-in_err-reserve_more-clause-types : goal.returns-in_err-reserve_more-clause-types
+returns-in_err-reserve_more-clause-types c = λ n. c.reserve_more.ensures.types n ∙ c.loop-slot.invariant.types n
+
 pub loop-slot-preserved : goal.loop-slot-preserved
 loop-slot-preserved c =
     let i = c.loop-slot.slot-index in
@@ -47,3 +50,7 @@ loop-slot-init c = record {
   types = λ n. refl;
   room = room_none c.args.self.now.archetypes;
 }
+
+pub returns-clause-room : goal.returns-clause-room
+returns-clause-room c =
+    subst (HasRoomFor c.loop-slot.self.archetypes) (take_all c.loop-slot.slot-index c.args.slots.now c.loop-slot-test.false) c.loop-slot.invariant.room

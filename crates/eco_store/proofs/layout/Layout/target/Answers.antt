@@ -1,7 +1,8 @@
-use Rattle.std.proofs.Common.{◌∷◌, refl}
+use Rattle.std.proofs.Common.{◌∙◌, ◌∷◌, refl}
 use Rattle.eco_store.specs.Staying.{all_staying}
 use Rattle.eco_archetypes.proofs.ArchetypeLemmas.{then_rows}
 use Rattle.eco_store.proofs.Laid.{plans_same, plans_target}
+use Rattle.eco_store.proofs.Targets.{is_targeted}
 use Rattle.eco_store.proofs.Rowless.{rowless_same}
 use Rattle.eco_store.proofs.layout.Layout.target.Goals as goal
 
@@ -33,3 +34,15 @@ returns-in-Ok-false-clause-plans c =
     let l = c.args.self.now in
     plans_target l c.requires c.room_for.new.self c.add_target.new.self c.room_for.ensures.rows c.room_for.ensures.widths c.in_ok-slot.slot
     (c.in_ok-slot.ensures.rowless (all_staying l.staying) c.requires.tidy) c.in-Ok-false.ensures.ok
+
+pub returns-in-Ok-true-clause-typed : goal.returns-in-Ok-true-clause-typed
+returns-in-Ok-true-clause-typed c = c.waive.ensures.types c.in_ok-slot.slot ∙ c.in_ok-slot.ensures.typed
+
+pub returns-in-Ok-true-clause-named : goal.returns-in-Ok-true-clause-named
+returns-in-Ok-true-clause-named c = rw c.in-Ok-true.ensures.ok (is_targeted c.args.self.now.staying c.in_ok-slot.slot)
+
+pub returns-in-Ok-true-clause-kept : goal.returns-in-Ok-true-clause-kept
+returns-in-Ok-true-clause-kept c = λ n ids was. c.waive.ensures.types n ∙ c.in_ok-slot.ensures.types n ids was
+
+pub returns-in-Ok-false-clause-named : goal.returns-in-Ok-false-clause-named
+returns-in-Ok-false-clause-named c = rw c.in-Ok-false.ensures.ok (is_targeted c.args.self.now.staying c.in_ok-slot.slot)

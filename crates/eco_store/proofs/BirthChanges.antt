@@ -1,126 +1,94 @@
 -- The store after an entity came to live in a row of its own.
 use Rattle.std.proofs.Common.{◌≡◌, ◌≢◌, ℕ, ◌≤◌, List, [], ◌∷◌, ◌++◌, map, length, slice_get, Option, Some, None, option_map, is_some, IsTrue, replicate, Bool}
-use Rattle.std.proofs.Common.{true, false, ◌&&◌, nat_le, MatchBool, Result, Ok, Err, MatchOption, zero, suc, ◌+◌, refl, sym, ap, subst, ◌∙◌, inl, inr}
-use Rattle.std.proofs.lemmas.Bool.{cases_eq}
-use Rattle.std.proofs.lemmas.List.{length-map}
+use Rattle.std.proofs.Common.{◌<◌, if◌then◌else◌, arith}
+use Rattle.std.proofs.Common.{true, false, ◌&&◌, nat_le, MatchBool, Result, Ok, MatchOption, zero, suc, ◌+◌, refl, sym, ap, subst, ◌∙◌}
+use Rattle.std.proofs.lemmas.List.{length-map, map-append}
 use Rattle.eco_ids.specs.World.{Record}
 use Rattle.eco_ids.specs.declared.entity.Entity.{Entity}
 use Rattle.eco_ids.specs.declared.id.Id.{Id}
 use Rattle.eco_ids.specs.declared.refusal.Refusal.{Refusal}
 use Rattle.eco_ids.specs.declared.refusal.Refusal.TheVariants.{NoMoreIds}
-use Rattle.eco_ids.specs.Births.{Admits, may_admit, Makes, may_make, unfit_name}
+use Rattle.eco_ids.specs.Births.{Admits, may_admit, Makes, may_make}
 use Rattle.eco_ids.specs.Outcome.{Meets, is_out_of_memory, Answers, Refuses}
 use Rattle.eco_ids.specs.Indices.{changed, change_kept, Indexed, IndexState, Retired, Free, Living, with_record, with_new, next_entity, is_alive, is_free_at}
 use Rattle.eco_ids.specs.Indices.{is_free_in, map_state, admitted}
-use Rattle.eco_tables.specs.Column.{retyped}
-use Rattle.eco_tables.specs.Table.{TableState}
+use Rattle.eco_tables.specs.Table.{TableState, retyped_row}
+use Rattle.eco_tables.specs.Tables.{new_row as row_of}
 use Rattle.eco_entities.specs.declared.place.Place.{Place}
-use Rattle.eco_entities.specs.Registration.{Registration, given_name, newcomer, placed}
+use Rattle.eco_entities.specs.Registration.{CreatesRegistration, Registration, given_name, newcomer, placed}
 use Rattle.eco_store.specs.Layout.{rows_in, PutsRow}
-use Rattle.eco_store.specs.Placing.{Opposes}
-use Rattle.eco_store.specs.Seats.{IsSeated, seat_of, seen, held_of}
-use Rattle.eco_archetypes.specs.Archetypes.{row_at}
-use Rattle.eco_store.specs.Store.{CreatesRecord, record_name, record_for, read, seat_in, seat_at, HasPlace, IsStore, all_zeros, newborn}
-use Rattle.std.proofs.lemmas.Option.{slice_get-map}
-use Rattle.eco_store.proofs.Moves.{push_seated, push_others_seen, push_held}
+use Rattle.eco_store.specs.Seats.{IsSeated, seen, held_of}
+use Rattle.eco_archetypes.specs.Archetypes.{row_at, SameRows}
+use Rattle.eco_store.specs.Store.{CreatesRecord, record_name, record_for, read, seat_in, seat_at, HasPlace, IsStore, newborn}
+use Rattle.std.proofs.lemmas.Option.{slice_get_within}
+use Rattle.std.proofs.lemmas.Bool.Decides.{Decides-ltb}
+use Rattle.eco_store.proofs.RowChanges.{rows_pushed}
+use Rattle.eco_store.proofs.SeatChanges.{Pushed, pushed_change}
 use Rattle.eco_ids.proofs.Lists.{slice_get-set_there, slice_get-set_other, map-replicate}
 use Rattle.eco_ids.proofs.States.{record_at}
-use Rattle.eco_store.proofs.Views.{ext_slice_get, bare, seen_alike}
-use Rattle.eco_store.proofs.Newborn.{opposed, refused, Vacant, born_here, born_other, born_limit, next_is}
+use Rattle.eco_store.proofs.Views.{alike_but, alike_set, at_each, bare, each_state, read_at, seen_alike}
+use Rattle.eco_store.proofs.Newborn.{create_done, create_made, create_refused, refused, Vacant, born_here, born_other, born_limit, next_is}
+use Rattle.eco_store.proofs.StoreChanges.{same_read}
 
 no_seat : (o : Option (IndexState Registration)) → Vacant o → seat_in o ≡ None
-no_seat None v = refl
-no_seat (Some Retired) v = refl
-no_seat (Some (Free g)) v = refl
-no_seat (Some (Living g r)) v = absurd v
+no_seat = each_state (λ o. Vacant o → seat_in o ≡ None) (λ v. refl) (λ v. refl) (λ g v. refl) (λ g r v. absurd v)
 
+-- ---- an entity comes to live, and gets a row of its own
 module _ (w w1 : Indexed Registration) (s s1 : List (Option TableState)) (e : Entity) (place : Place) (ids : List Id) (name : Option (List ℕ))
-    (arity : Option ℕ) (store : IsStore w s)
-    (vacant : Vacant (slice_get w.indices e.index))
-    (here1 : slice_get w1.indices e.index ≡ Some (Living e.generation (newcomer name arity)))
-    (others1 : (j : ℕ) → j ≢ e.index → slice_get w1.indices j ≡ slice_get w.indices j)
-    (limit1 : w1.limit ≡ w.limit)
-    (puts : PutsRow (rows_in s) (rows_in s1) place e ids) where
+    (arity : Option ℕ) (store : IsStore w s) (puts : PutsRow (rows_in s) (rows_in s1) place e ids)
+    (near : e.index ≤ length w.indices) (vacant : Vacant (slice_get w.indices e.index)) (is : w1 ≡ with_new w e (newcomer name arity)) where
   abbrev settled : Registration
   settled = placed place (newcomer name arity)
 
   abbrev w2 : Indexed Registration
-  w2 = changed w1 e (placed place)
+  w2 = with_record w1 e settled
 
-  abbrev w2' : Indexed Registration
-  w2' = with_record w1 e settled
+  born_at : slice_get w1.indices e.index ≡ Some (Living e.generation (newcomer name arity))
+  born_at = ap (λ (v : Indexed Registration). slice_get v.indices e.index) is ∙ born_here w e (newcomer name arity) near
 
-  w2_is : w2 ≡ w2'
-  w2_is = ap (change_kept w1 e (placed place)) (record_at w1 e (newcomer name arity) here1)
+  w2_is : changed w1 e (placed place) ≡ w2
+  w2_is = ap (change_kept w1 e (placed place)) (record_at w1 e (newcomer name arity) born_at)
 
-  w2_here : slice_get w2'.indices e.index ≡ Some (Living e.generation settled)
-  w2_here = slice_get-set_there w1.indices e.index (Living e.generation settled) (Living e.generation (newcomer name arity)) here1
+  w2_here : slice_get w2.indices e.index ≡ Some (Living e.generation settled)
+  w2_here = slice_get-set_there w1.indices e.index (Living e.generation settled) _ born_at
 
-  w2_others : (j : ℕ) → j ≢ e.index → slice_get w2'.indices j ≡ slice_get w.indices j
-  w2_others j other = slice_get-set_other w1.indices e.index j (Living e.generation settled) other ∙ others1 j other
+  w2_others : (j : ℕ) → j ≢ e.index → slice_get w2.indices j ≡ slice_get w.indices j
+  w2_others j other =
+      slice_get-set_other w1.indices e.index j (Living e.generation settled) other
+      ∙ ap (λ (v : Indexed Registration). slice_get v.indices j) is ∙ born_other w e (newcomer name arity) near j other
 
-  seat_now : seat_at w2' e.index ≡ Some (seat_of e place.table place.row)
-  seat_now = ap seat_in w2_here
+  pushed : Pushed (row_at s) (row_at s1) place.table place.row (retyped_row ids (row_of e))
+  pushed =
+      rows_pushed (row_at s) (row_at s1) place.table place.row (rows_in s place.table) _ puts.end (λ k. refl)
+      (λ k. ap (λ xs. slice_get xs k) puts.rows.changed) (λ n k o. ap (λ xs. slice_get xs k) (puts.rows.others n o))
 
-  seats_kept : (j : ℕ) → j ≢ e.index → seat_at w2' j ≡ seat_at w j
-  seats_kept j other = ap seat_in (w2_others j other)
+  born_change : IsSeated (seat_at w2) (row_at s1)
+      × ((j : ℕ) → j ≢ e.index → option_map (seen (row_at s1)) (seat_at w2 j) ≡ option_map (seen (row_at s)) (seat_at w j))
+  born_change =
+      pushed_change (seat_at w) (seat_at w2) (row_at s) (row_at s1) e.index e.generation place.table place.row _ store.seated pushed (no_seat _ vacant)
+      refl (ap seat_in w2_here) (λ j other. ap seat_in (w2_others j other))
 
-  pub born_store : IsStore w2 s1
+  pub born_store : IsStore (changed w1 e (placed place)) s1
   born_store = subst (λ v. IsStore v s1) (sym w2_is) (record {
-    seated = push_seated (seat_at w) (seat_at w2') s s1 e place ids store.seated (no_seat _ vacant) puts seat_now seats_kept;
-    placed = λ j. elim (cases_eq j e.index) [
-      | inl h ↦ subst HasPlace (sym (ap (slice_get w2'.indices) h ∙ w2_here)) refl
-      | inr other ↦ subst HasPlace (sym (w2_others j other)) (store.placed j)
-    ];
+    seated = born_change.0;
+    placed =
+        at_each e.index (λ j. HasPlace (slice_get w2.indices j)) (subst HasPlace (sym w2_here) refl)
+        (λ j other. subst HasPlace (sym (w2_others j other)) (store.placed j));
   })
 
-  abbrev child : Record
-  child = newborn name arity ids
-
-  held_now : held_of (row_at s1 place.table place.row) ≡ all_zeros ids
-  held_now =
-      let seen_now = push_held (seat_at w) (seat_at w2') s s1 e place ids store.seated (no_seat _ vacant) puts seat_now seats_kept in
-      let at = sym (ap (option_map (seen (row_at s1))) seat_now) ∙ seen_now in
-      let same : held_of (row_at s1 place.table place.row) ≡ retyped ids [] = cc in same
-
-  seen_here : slice_get (read w2' s1).indices e.index ≡ Some (Living e.generation child)
-  seen_here =
-      slice_get-map (map_state (record_for (row_at s1))) w2'.indices e.index ∙ ap (option_map (map_state (record_for (row_at s1)))) w2_here
-      ∙ (λ t. Some (Living e.generation (record { name = name; arity = arity; held = held_now t })))
-
-  seen_others : (j : ℕ) → j ≢ e.index → slice_get (read w2' s1).indices j ≡ slice_get (read w s).indices j
-  seen_others j other =
-      seen_alike w w2' s s1 j (ap (option_map (map_state bare)) (w2_others j other))
-      (push_others_seen (seat_at w) (seat_at w2') s s1 e place ids store.seated (no_seat _ vacant) puts seat_now seats_kept j other)
-
-  -- where it is a new one
-  pub born_read : e.index ≤ length w.indices → read w2 s1 ≡ with_new (read w s) e child
-  born_read near =
+  pub born_read : read (changed w1 e (placed place)) s1 ≡ with_new (read w s) e (newborn name arity ids)
+  born_read =
+      let child = newborn name arity ids in
       let near' : e.index ≤ length (read w s).indices = rw length-map near in
-      let indices : (read w2' s1).indices ≡ (with_new (read w s) e child).indices =
-      ext_slice_get (read w2' s1).indices (with_new (read w s) e child).indices
-      (λ j. elim (cases_eq j e.index) [
-        | inl h ↦ ap (slice_get (read w2' s1).indices) h ∙ seen_here ∙ sym
-            (ap (slice_get (with_new (read w s) e child).indices) h ∙ born_here (read w s) e child near')
-        | inr other ↦ seen_others j other ∙ sym (born_other (read w s) e child near' j other)
-      ]) in
-      let limits : w1.limit ≡ (with_new (read w s) e child).limit = limit1 ∙ sym (born_limit (read w s) e child near') in
+      let indices = alike_but (read w2 s1).indices (with_new (read w s) e child).indices e.index
+      (read_at w2 s1 e.index _ w2_here ∙ (λ t. Some (Living e.generation (record { name = name; arity = arity; held = held_of (pushed.at_end t) })))
+      ∙ sym (born_here (read w s) e child near'))
+      (λ j other.
+      seen_alike w w2 s s1 j (ap (option_map (map_state bare)) (w2_others j other)) (born_change.1 j other)
+      ∙ sym (born_other (read w s) e child near' j other)) in
+      let limits : w1.limit ≡ (with_new (read w s) e child).limit =
+      ap (λ (v : Indexed Registration). v.limit) is ∙ born_limit w e (newcomer name arity) ∙ sym (born_limit (read w s) e child) in
       ap (λ v. read v s1) w2_is ∙ (λ t. record { limit = limits t; indices = indices t })
-
-  -- where its index was known
-  pub made_alive_read : (x : IndexState Registration) → slice_get w.indices e.index ≡ Some x → read w2 s1 ≡ with_record (read w s) e child
-  made_alive_read x was =
-      let old : slice_get (read w s).indices e.index ≡ Some (map_state (record_for (row_at s)) x) =
-      slice_get-map (map_state (record_for (row_at s))) w.indices e.index ∙ ap (option_map (map_state (record_for (row_at s)))) was in
-      let indices : (read w2' s1).indices ≡ (with_record (read w s) e child).indices =
-      ext_slice_get (read w2' s1).indices (with_record (read w s) e child).indices
-      (λ j. elim (cases_eq j e.index) [
-        | inl h ↦
-            ap (slice_get (read w2' s1).indices) h ∙ seen_here
-            ∙ sym (ap (slice_get (with_record (read w s) e child).indices) h ∙ slice_get-set_there (read w s).indices e.index (Living e.generation child) _ old)
-        | inr other ↦ seen_others j other ∙ sym (slice_get-set_other (read w s).indices e.index j (Living e.generation child) other)
-      ]) in
-      ap (λ v. read v s1) w2_is ∙ (λ t. record { limit = limit1 t; indices = indices t })
 
 -- a free handle
 pub free_is : {A : Type 0} (w : Indexed A) (e : Entity) → IsTrue (is_free_at w e) → (g : ℕ) × (slice_get w.indices e.index ≡ Some (Free g))
@@ -133,20 +101,12 @@ free_is {A} w e = by (slice_get w.indices e.index)
     by (Some (Living g r)) h = absurd (cc)
 
 pub is_free_at-read : (w : Indexed Registration) (s : List (Option TableState)) (e : Entity) → is_free_at (read w s) e ≡ is_free_at w e
-is_free_at-read w s e = ap (λ o. is_free_in o e.generation) (slice_get-map (map_state (record_for (row_at s))) w.indices e.index)
-    ∙ by (slice_get w.indices e.index)
-  where
-    by : (o : Option (IndexState Registration)) → is_free_in (option_map (map_state (record_for (row_at s))) o) e.generation ≡ is_free_in o e.generation
-    by None = refl
-    by (Some Retired) = refl
-    by (Some (Free g)) = refl
-    by (Some (Living g r)) = refl
+is_free_at-read w s e =
+    ap (λ o. is_free_in o e.generation) (read_at w s e.index _ refl)
+    ∙ each_state (λ o. is_free_in (option_map (map_state (record_for (row_at s))) o) e.generation ≡ is_free_in o e.generation) refl refl (λ g. refl)
+    (λ g r. refl) (slice_get w.indices e.index)
 
 -- ---- more indices become known
-
-map-append : {X Y : Type 0} (f : X → Y) (xs ys : List X) → map f (xs ++ ys) ≡ map f xs ++ map f ys
-map-append f [] ys = refl
-map-append f (x ∷ xs) ys = ap (λ zs. f x ∷ zs) (map-append f xs ys)
 
 fresh_seat : (xs : List (IndexState Registration)) (n j : ℕ) → seat_in (slice_get (xs ++ replicate n (Free 0)) j) ≡ seat_in (slice_get xs j)
 fresh_seat [] zero j = refl
@@ -176,36 +136,6 @@ admitted_read w s n =
           ∙ ap (λ ys. map (map_state (record_for (row_at s))) w.indices ++ ys) (map-replicate (map_state (record_for (row_at s))) n (Free 0))) t;
     }
 
--- ---- a created entity
-module _ (w w1 : Indexed Registration) (s s1 : List (Option TableState)) (e : Entity) (place : Place) (ids : List Id) (name : Option (List ℕ))
-    (arity : Option ℕ) (store : IsStore w s) (puts : PutsRow (rows_in s) (rows_in s1) place e ids)
-    (next : next_entity w ≡ Some e) (is : w1 ≡ with_new w e (newcomer name arity)) where
-  near_end : e.index ≤ length w.indices
-  near_end = (next_is w e next).0
-
-  created_here : slice_get w1.indices e.index ≡ Some (Living e.generation (newcomer name arity))
-  created_here = ap (λ (v : Indexed Registration). slice_get v.indices e.index) is ∙ born_here w e (newcomer name arity) near_end
-
-  created_others : (j : ℕ) → j ≢ e.index → slice_get w1.indices j ≡ slice_get w.indices j
-  created_others j other = ap (λ (v : Indexed Registration). slice_get v.indices j) is ∙ born_other w e (newcomer name arity) near_end j other
-
-  created_limit : w1.limit ≡ w.limit
-  created_limit = ap (λ (v : Indexed Registration). v.limit) is ∙ born_limit w e (newcomer name arity) near_end
-
-  pub created_store : IsStore (changed w1 e (placed place)) s1
-  created_store =
-      born_store w w1 s s1 e place ids name arity store (next_is w e next).1 created_here created_others created_limit puts
-
-  pub created_read : read (changed w1 e (placed place)) s1 ≡ with_new (read w s) e (newborn name arity ids)
-  created_read =
-      born_read w w1 s s1 e place ids name arity store (next_is w e next).1 created_here created_others created_limit puts near_end
-
-pub created_alive : (w w1 : Indexed Registration) (e : Entity) (name : Option (List ℕ)) (arity : Option ℕ) → next_entity w ≡ Some e →
-    w1 ≡ with_new w e (newcomer name arity) → IsTrue (is_alive w1 e)
-created_alive w w1 e name arity next is =
-    ap is_some (record_at w1 e (newcomer name arity) (ap (λ (v : Indexed Registration). slice_get v.indices e.index) is
-    ∙ born_here w e (newcomer name arity) (next_is w e next).0))
-
 -- who is placed at once is as if placed later
 pub placed_new : (w : Indexed Registration) (e : Entity) (d : Registration) (p : Place) → next_entity w ≡ Some e
     → with_new w e (placed p d) ≡ changed (with_new w e d) e (placed p)
@@ -214,18 +144,10 @@ placed_new w e d p next =
     let r = placed p d in
     let w1 = with_new w e d in
     let here = born_here w e d near in
-    let indices : (with_new w e r).indices ≡ (with_record w1 e r).indices =
-    ext_slice_get (with_new w e r).indices (with_record w1 e r).indices
-    (λ j. elim (cases_eq j e.index) [
-      | inl h ↦ ap (slice_get (with_new w e r).indices) h ∙ born_here w e r near ∙ sym
-          (ap (slice_get (with_record w1 e r).indices) h
-          ∙ slice_get-set_there w1.indices e.index (Living e.generation r) (Living e.generation d) here)
-      | inr other ↦ born_other w e r near j other ∙ sym
-          (slice_get-set_other w1.indices e.index j (Living e.generation r) other ∙ born_other w e d near j other)
-    ]) in
-    let limits : (with_new w e r).limit ≡ w1.limit = born_limit w e r near ∙ sym (born_limit w e d near) in
-    (λ t. record { limit = limits t; indices = indices t })
-    ∙ sym (ap (change_kept w1 e (placed p)) (record_at w1 e d here))
+    let indices = alike_set (with_new w e r).indices w1.indices e.index (Living e.generation r) _ here (born_here w e r near)
+    (λ j other. born_other w e r near j other ∙ sym (born_other w e d near j other)) in
+    let limits : (with_new w e r).limit ≡ w1.limit = born_limit w e r ∙ sym (born_limit w e d) in
+    (λ t. record { limit = limits t; indices = indices t }) ∙ sym (ap (change_kept w1 e (placed p)) (record_at w1 e d here))
 
 -- who has no name is made where somebody can be
 pub creates_unnamed : (w : Indexed Registration) (e : Entity) (arity : Option ℕ) → next_entity w ≡ Some e
@@ -237,48 +159,33 @@ creates_unnamed w e arity next =
     (sym next) (refl, refl)
 
 -- ---- an entity that is made alive
-module _ (w w1 : Indexed Registration) (s s1 : List (Option TableState)) (e : Entity) (place : Place) (ids : List Id) (name : Option (List ℕ))
-    (arity : Option ℕ) (store : IsStore w s) (puts : PutsRow (rows_in s) (rows_in s1) place e ids)
-    (free : IsTrue (is_free_at w e)) (is : w1 ≡ with_record w e (newcomer name arity)) where
+
+-- at an index that is known
+known_new : {A : Type 0} (w : Indexed A) (e : Entity) (d : A) → e.index < length w.indices → with_record w e d ≡ with_new w e d
+known_new w e d known =
+    ap (λ b. if b then with_record w e d else record w { indices = w.indices ++ Living e.generation d ∷ [] }) (sym ((Decides-ltb _ _).1 known))
+
+module _ (w w1 : Indexed Registration) (s s1 : List (Option TableState)) (e : Entity) (place : Place) (store : IsStore w s)
+    (puts : PutsRow (rows_in s) (rows_in s1) place e []) (free : IsTrue (is_free_at w e)) (is : w1 ≡ with_record w e (newcomer None None)) where
   found : (g : ℕ) × (slice_get w.indices e.index ≡ Some (Free g))
   found = free_is w e free
 
-  made_alive_vacant : Vacant (slice_get w.indices e.index)
-  made_alive_vacant = subst Vacant (sym found.1) tt
+  known : e.index < length w.indices
+  known = slice_get_within w.indices e.index _ found.1
 
-  made_alive_here : slice_get w1.indices e.index ≡ Some (Living e.generation (newcomer name arity))
-  made_alive_here = ap (λ (v : Indexed Registration). slice_get v.indices e.index) is
-      ∙ slice_get-set_there w.indices e.index (Living e.generation (newcomer name arity)) (Free found.0) found.1
+  vacant : Vacant (slice_get w.indices e.index)
+  vacant = subst Vacant (sym found.1) tt
 
-  made_alive_others : (j : ℕ) → j ≢ e.index → slice_get w1.indices j ≡ slice_get w.indices j
-  made_alive_others j other = ap (λ (v : Indexed Registration). slice_get v.indices j) is
-      ∙ slice_get-set_other w.indices e.index j (Living e.generation (newcomer name arity)) other
-
-  made_alive_limit : w1.limit ≡ w.limit
-  made_alive_limit = ap (λ (v : Indexed Registration). v.limit) is
+  as_new : w1 ≡ with_new w e (newcomer None None)
+  as_new = is ∙ known_new w e (newcomer None None) known
 
   pub made_alive_store : IsStore (changed w1 e (placed place)) s1
-  made_alive_store =
-      born_store w w1 s s1 e place ids name arity store made_alive_vacant made_alive_here made_alive_others made_alive_limit puts
+  made_alive_store = born_store w w1 s s1 e place [] None None store puts (omega (arith, known)) vacant as_new
 
-  pub made_alive_seen : read (changed w1 e (placed place)) s1 ≡ with_record (read w s) e (newborn name arity ids)
-  made_alive_seen =
-      made_alive_read w w1 s s1 e place ids name arity store made_alive_vacant made_alive_here made_alive_others made_alive_limit puts (Free found.0) found.1
-
--- where the name is unfit, that stands against the entity
-pub name_opposes : (unfit : Option Refusal) (next : Option Entity) (why : Refusal)
-    → MatchOption unfit (◌≡◌ {A = Result (Unit {0}) Refusal} (Err why) (Ok tt)) (λ x. ◌≡◌ {A = Result (Unit {0}) Refusal} (Err why) (Err x)) →
-    Opposes unfit next (Err why)
-name_opposes None next why h = absurd (cc)
-name_opposes (Some x) next why h = h
-
--- where it is fit and nobody can be made next, that does
-pub end_opposes : (unfit : Option Refusal) (next : Option Entity)
-    → MatchOption unfit (◌≡◌ {A = Result (Unit {0}) Refusal} (Ok tt) (Ok tt)) (λ x. ◌≡◌ {A = Result (Unit {0}) Refusal} (Ok tt) (Err x))
-    → next ≡ None → Opposes unfit next (Err NoMoreIds)
-end_opposes None None h none = refl
-end_opposes None (Some e) h none = absurd (cc)
-end_opposes (Some x) next h none = absurd (cc)
+  pub made_alive_read : read (changed w1 e (placed place)) s1 ≡ with_record (read w s) e (newborn None None [])
+  made_alive_read =
+      born_read w w1 s s1 e place [] None None store puts (omega (arith, known)) vacant as_new
+      ∙ sym (known_new (read w s) e (newborn None None []) (rw length-map known))
 
 pub admit_lifts : (w w1 : Indexed Registration) (s : List (Option TableState)) (n : ℕ) (some : Bool) (r : Result (Unit {0}) Refusal)
     → Meets (Admits w n) (may_admit w n && some) w r w1
@@ -300,17 +207,40 @@ admit_lifts w w1 s n some r h = by (is_out_of_memory r) h
         let e = ends (nat_le (length w.indices + n) w.limit) q in
         (e.0, subst (λ b. MatchBool b (Answers tt (admitted n (read w s)) r (read w1 s)) (Refuses NoMoreIds (read w s) r (read w1 s))) (sym fits) e.1)
 
--- who is refused leaves what was seen
-pub still_refused : (old seen new : Indexed Record) (name : Option (List ℕ)) (arity : Option ℕ) (ids : List Id) (r : Result Entity Refusal) → old ≡ seen
-    → new ≡ old → CreatesRecord old name arity ids r old → CreatesRecord seen name arity ids r new
-still_refused old seen new name arity ids r is same h =
-    subst (λ v. CreatesRecord v name arity ids r new) is (subst (CreatesRecord old name arity ids r) (sym same) h)
+-- ---- a creation
 
--- what stands against the entity is the refusal, also where tables went since
-pub still_opposed : (w : Indexed Registration) (s s1 : List (Option TableState)) (seen : Indexed Record) (name : Option (List ℕ)) (arity : Option ℕ)
-    (ids : List Id) (why : Refusal)
-    → read w s ≡ seen → read w s1 ≡ read w s → Opposes (unfit_name given_name w name) (next_entity w) (Err why)
-    → CreatesRecord seen name arity ids (refused why) (read w s1)
-still_opposed w s s1 seen name arity ids why is same h =
-    still_refused (read w s) seen _ name arity ids (refused why) is same
-    (opposed (record_for (row_at s)) given_name record_name (λ a. refl) w (newborn name arity ids) name refl why h)
+module _ (w w1 : Indexed Registration) (s s1 : List (Option TableState)) (name : Option (List ℕ)) (arity : Option ℕ) (ids : List Id) (v : Indexed Record)
+    (view : read w s ≡ v) where
+  -- one that is refused leaves what was seen
+  pub still_refused : SameRows s s1 → (why : Refusal) → CreatesRegistration w name arity (refused why) w1
+      → (w1 ≡ w) × ((new : Indexed Record) → new ≡ read w1 s1 → CreatesRecord v name arity ids (refused why) new)
+  still_refused rows why h =
+      let r =
+      create_refused (record_for (row_at s)) given_name record_name (λ a. refl) w (newcomer name arity) (newborn name arity ids) refl w1 why h in (
+        r.0,
+        λ new is.
+            subst (CreatesRecord v name arity ids (refused why)) (sym (is ∙ ap (λ x. read x s1) r.0 ∙ same_read w s s1 rows))
+            (subst (λ x. CreatesRecord x name arity ids (refused why) (read w s)) view r.1),
+      )
+
+  -- one that is done makes the next entity, which then gets a row
+  module _ (e : Entity) (h : CreatesRegistration w name arity (Ok e) w1) where
+    made : (next_entity w ≡ Some e) × (w1 ≡ with_new w e (newcomer name arity))
+    made = create_made (record_for (row_at s)) given_name record_name (λ a. refl) w (newcomer name arity) (newborn name arity ids) refl w1 e h
+
+    next : (e.index ≤ length w.indices) × Vacant (slice_get w.indices e.index)
+    next = next_is w e made.0
+
+    pub created_alive : IsTrue (is_alive w1 e)
+    created_alive =
+        ap is_some (record_at w1 e (newcomer name arity) (ap (λ (x : Indexed Registration). slice_get x.indices e.index) made.1
+        ∙ born_here w e (newcomer name arity) next.0))
+
+    pub still_created : (p : Place) (w2 : Indexed Registration) → w2 ≡ changed w1 e (placed p) → IsStore w s → PutsRow (rows_in s) (rows_in s1) p e ids
+        → IsStore w2 s1 × CreatesRecord v name arity ids (Ok e) (read w2 s1)
+    still_created p w2 is store puts = (
+      rw is (born_store w w1 s s1 e p ids name arity store puts next.0 next.1 made.1),
+      subst (λ x. CreatesRecord x name arity ids (Ok e) (read w2 s1)) view
+          (create_done (record_for (row_at s)) given_name record_name (λ a. refl) w (newcomer name arity) (newborn name arity ids) refl w1 _ e h
+          (ap (λ x. read x s1) is ∙ born_read w w1 s s1 e p ids name arity store puts next.0 next.1 made.1)),
+    )

@@ -5,7 +5,7 @@ use Rattle.std.proofs.Common.{add-one, inl, inr, true≢false}
 use Rattle.std.specs.List.{swap_remove}
 use Rattle.std.proofs.Math.ListN.{drop_of_length-le}
 use Rattle.std.proofs.Math.Seq.{drop-cons, take-append_seam}
-use Rattle.std.proofs.lemmas.Bool.{cases_eq, cases_lt}
+use Rattle.std.proofs.lemmas.Bool.{cases_lt}
 use Rattle.std.proofs.lemmas.List.{get_or-set_same, get_or-set_other, get_or_past}
 use Rattle.std.proofs.lemmas.List.{get_or-map, get_or-take, length-append, length-map, length-take-le, take-take, take_all}
 use Rattle.std.proofs.lemmas.Option.{none-some, slice_get-get_or, slice_get_past}
@@ -24,8 +24,9 @@ use Rattle.eco_store.specs.Layout.{rows_in, SetsRows, TakesRow}
 use Rattle.eco_store.specs.Seats.{seat_of}
 use Rattle.eco_store.specs.Store.{HasPlace, IsStore, read, seat_at}
 use Rattle.eco_store.proofs.Dying.{nobody_dies, one_dies}
-use Rattle.eco_store.proofs.StoreChanges.{out_alive, out_read, out_store, same_read, same_store}
-use Rattle.eco_store.proofs.Values.{alive_same, has_place, place_from_seat}
+use Rattle.eco_store.proofs.StoreChanges.{out_read, out_store, place_from_seat, still_lives, same_read, same_store}
+use Rattle.eco_store.proofs.Values.{alive_same, has_place}
+use Rattle.eco_store.proofs.Views.{at_each}
 
 abbrev pub no_entity : Entity
 no_entity = record { index = 0; generation = 0 }
@@ -151,13 +152,13 @@ module _ (w : Indexed Registration) (s : List (Option TableState)) (n : ℕ) (is
     }
 
     pub last_lives : IsTrue (is_alive w1 e)
-    last_lives = out_alive w1 (cut (k + 1)) (cut k) e p None store1 last_own last_takes
+    last_lives = still_lives w1 (cut (k + 1)) (cut k) e p None store1 last_own last_takes.rows.changed last_takes.filled
 
     last_store : IsStore (with_death w1 e) (cut k)
-    last_store = out_store w1 (cut (k + 1)) (cut k) e p None store1 last_own last_takes
+    last_store = out_store w1 (cut (k + 1)) (cut k) e p None store1 last_own last_takes.rows.changed last_takes.filled last_takes.rows.others
 
     last_read : read (with_death w1 e) (cut k) ≡ with_death (read w1 (cut (k + 1))) e
-    last_read = out_read w1 (cut (k + 1)) (cut k) e p None store1 last_own last_takes
+    last_read = out_read w1 (cut (k + 1)) (cut k) e p None store1 last_own last_takes.rows.changed last_takes.filled last_takes.rows.others
 
   -- so many are left
   pub record AreLeft (k : ℕ) : Type 0 where
@@ -168,12 +169,10 @@ module _ (w : Indexed Registration) (s : List (Option TableState)) (n : ℕ) (is
   all_left =
       let none : drop (length rows) standing ≡ [] =
       let long = length-map rows (λ (r : TableRow). r.entity) in drop_of_length-le standing (omega (arith, long)) in
-      let same : SameRows s (cut (length rows)) = λ m j. elim (cases_eq m n) [
-        | inl here ↦
-            ap (λ i. row_at (cut (length rows)) i j) here ∙ ap (λ xs. slice_get xs j) (cut_here (length rows) ∙ take_all (length rows) rows (omega arith))
-            ∙ sym (ap (λ i. row_at s i j) here)
-        | inr other ↦ ap (λ xs. slice_get xs j) (cut_others (length rows) m other)
-      ] in
+      let same : SameRows s (cut (length rows)) =
+      at_each n (λ m. (j : ℕ) → row_at (cut (length rows)) m j ≡ row_at s m j)
+      (λ j. ap (λ xs. slice_get xs j) (cut_here (length rows) ∙ take_all (length rows) rows (omega arith)))
+      (λ m other j. ap (λ xs. slice_get xs j) (cut_others (length rows) m other)) in
       record {
         store =
             subst (λ es. IsStore (with_deaths w es) (cut (length rows))) (sym none) (same_store w s (cut (length rows)) same is_store);
@@ -219,11 +218,9 @@ module _ (w : Indexed Registration) (s : List (Option TableState)) (n : ℕ) (is
   -- all died, and the table is without rows
   module _ (s' : List (Option TableState)) (sets : SetsRows (rows_in s) (rows_in s') n []) where
     none_rows : SameRows (cut 0) s'
-    none_rows m j = elim (cases_eq m n) [
-      | inl here ↦
-          ap (λ i. row_at s' i j) here ∙ ap (λ xs. slice_get xs j) (sets.changed ∙ sym (cut_here 0)) ∙ sym (ap (λ i. row_at (cut 0) i j) here)
-      | inr other ↦ ap (λ xs. slice_get xs j) (sets.others m other ∙ sym (cut_others 0 m other))
-    ]
+    none_rows =
+        at_each n (λ m. (j : ℕ) → row_at s' m j ≡ row_at (cut 0) m j) (λ j. ap (λ xs. slice_get xs j) (sets.changed ∙ sym (cut_here 0)))
+        (λ m other j. ap (λ xs. slice_get xs j) (sets.others m other ∙ sym (cut_others 0 m other)))
 
     pub cleared_store : IsStore (with_deaths w standing) s'
     cleared_store = same_store (with_deaths w standing) (cut 0) s' none_rows (are_left 0 (omega arith)).store

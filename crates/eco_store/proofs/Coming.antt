@@ -1,10 +1,8 @@
 -- Room for the entities that come, and what each of their moves leaves of it.
 use Rattle.std.proofs.Common.{◌≡◌, ◌≢◌, ℕ, ◌+◌, ◌-◌, ◌≤◌, ◌<◌, Bool, true, false, true≢false, IsTrue, if◌then◌else◌, List, [], ◌∷◌, ◌++◌, map, length}
-use Rattle.std.proofs.Common.{get_or, slice_get, drop, Option, Some, None, is_some, option_map, unwrap_or, IsSome, nat_eq, refl, sym, ap, subst, ◌∙◌, arith}
-use Rattle.std.proofs.Common.{inl, inr}
+use Rattle.std.proofs.Common.{get_or, slice_get, drop, Option, Some, None, is_some, option_map, unwrap_or, IsSome, nat_eq, refl, sym, ap, ◌∙◌, arith}
 use Rattle.std.specs.List.{All, list_any}
 use Rattle.std.proofs.Math.ListN.{get_or-map}
-use Rattle.std.proofs.lemmas.Bool.{cases_eq}
 use Rattle.std.proofs.lemmas.List.{length-map, map-append, get_or_default}
 use Rattle.std.proofs.lemmas.List.Elements.{All-head, All-tail}
 use Rattle.std.proofs.lemmas.Option.{same_Some}
@@ -20,6 +18,7 @@ use Rattle.eco_store.specs.declared.moving.Move.{Move}
 use Rattle.eco_store.specs.Moving.{arriving, AdmitsRow, AreTyped, HasRoomFor}
 use Rattle.eco_store.specs.Staying.{SameIn}
 use Rattle.eco_store.proofs.RowChanges.{is_equal}
+use Rattle.eco_store.proofs.Views.{at_each}
 
 -- ---- types
 
@@ -110,19 +109,12 @@ room_none s m = omega arith
 -- room for one more
 pub place_more : (s s' : List (Option TableState)) (ns : List ℕ) (n : ℕ) (slot : Option TableState) → HasRoomFor s ns → SetsSlot s s' n slot
     → (table_in s' n).room ≡ (table_in s n).room + 1 → HasRoomFor s' (ns ++ n ∷ [])
-place_more s s' ns n slot room sets more m =
-    let parts = arriving_more ns n m in
-    elim (cases_eq m n) [
-      | inl here ↦
-          let one = one_here n m here in
-          let had : arriving ns m ≤ (table_in s n).room = subst (λ k. arriving ns m ≤ (table_in s k).room) here (room m) in
-          let now : arriving (ns ++ n ∷ []) m ≤ (table_in s' n).room = omega (arith, parts, one, had, more) in
-          subst (λ k. arriving (ns ++ n ∷ []) m ≤ (table_in s' k).room) (sym here) now
-      | inr other ↦
-          let none = none_elsewhere n m other in
-          let same = ap (λ o. (unwrap_or o no_table).room) (sets.others m other) in
-          omega (arith, parts, none, same, room m)
-    ]
+place_more s s' ns n slot room sets more =
+    at_each n (λ m. arriving (ns ++ n ∷ []) m ≤ (table_in s' m).room)
+    (omega (arith, arriving_more ns n n, one_here n n refl, room n, more))
+    (λ m other.
+    let same = ap (λ o. (unwrap_or o no_table).room) (sets.others m other) in
+    omega (arith, arriving_more ns n m, none_elsewhere n m other, same, room m))
 
 -- who comes first has room
 pub first_place : (s : List (Option TableState)) (n : ℕ) (ns : List ℕ) → HasRoomFor s (n ∷ ns) → 0 < (table_in s n).room
@@ -156,23 +148,15 @@ admits_row s s1 s2 from row to slots there_from there_to moves same = record {
 }
   where
     after : (n : ℕ) → (table_in s n).room ≤ (table_in s1 n).room + arriving (to ∷ []) n
-    after n =
-        elim (cases_eq n to) [
-          | inl here ↦
-              let one = one_here to n here in
-              let left : (table_in s1 to).room ≡ (table_in s to).room - 1 = ap (λ o. (unwrap_or o no_table).room) moves.target in
-              let now : (table_in s to).room ≤ (table_in s1 to).room + arriving (to ∷ []) n = omega (arith, one, left) in
-              subst (λ k. (table_in s k).room ≤ (table_in s1 k).room + arriving (to ∷ []) n) (sym here) now
-          | inr not_to ↦ elim (cases_eq n from) [
-            | inl here ↦
-                let more : (table_in s1 from).room ≡ (table_in s from).room + 1 = ap (λ o. (unwrap_or o no_table).room) moves.source in
-                let now : (table_in s from).room ≤ (table_in s1 from).room = omega (arith, more) in
-                subst (λ k. (table_in s k).room ≤ (table_in s1 k).room + arriving (to ∷ []) n) (sym here) (omega (arith, now))
-            | inr not_from ↦
-                let stays = ap (λ o. (unwrap_or o no_table).room) (moves.others n not_from not_to) in
-                omega (arith, stays)
-          ]
-        ]
+    after =
+        at_each to (λ n. (table_in s n).room ≤ (table_in s1 n).room + arriving (to ∷ []) n)
+        (let left : (table_in s1 to).room ≡ (table_in s to).room - 1 = ap (λ o. (unwrap_or o no_table).room) moves.target in
+        omega (arith, one_here to to refl, left))
+        (at_each from (λ n. n ≢ to → (table_in s n).room ≤ (table_in s1 n).room + arriving (to ∷ []) n)
+        (λ not_to.
+        let more : (table_in s1 from).room ≡ (table_in s from).room + 1 = ap (λ o. (unwrap_or o no_table).room) moves.source in
+        omega (arith, more))
+        (λ n not_from not_to. let stays = ap (λ o. (unwrap_or o no_table).room) (moves.others n not_from not_to) in omega (arith, stays)))
 
 -- nothing changes where the entity does not live
 pub changed_dead : {A : Type 0} (w : Indexed A) (e : Entity) (f : A → A) → is_alive w e ≡ false → changed w e f ≡ w

@@ -1,27 +1,32 @@
 -- Two entities step, and the table that the second one goes to is taken before the first step.
 use Rattle.std.proofs.Common.{◌≡◌, ◌≢◌, ℕ, ◌+◌, ◌≤◌, Bool, true, false, IsTrue, if◌then◌else◌, List, [], ◌∷◌, slice_get, Option, Some, option_map, unwrap_or}
-use Rattle.std.proofs.Common.{nat_eq, length, sym, ap, ◌∙◌, subst, arith, Result, Ok, Err, OnOk}
+use Rattle.std.proofs.Common.{nat_eq, sym, ap, ◌∙◌, arith, Result, Ok, Err, IfOk, OnErr}
+use Rattle.std.specs.Prelude.{MatchBool}
 use Rattle.std.specs.List.{list_any}
 use Rattle.std.proofs.lemmas.List.{set_comm}
 use Rattle.eco_ids.specs.declared.entity.Entity.{Entity}
 use Rattle.eco_ids.specs.declared.id.Id.{Id}
 use Rattle.eco_ids.specs.Indices.{changed, change_kept, is_alive, record_in, record_of, with_record, Indexed, Living}
-use Rattle.eco_ids.specs.World.{Record}
 use Rattle.eco_ids.proofs.Lists.{slice_get-set_other}
 use Rattle.eco_ids.proofs.States.{living_at, same_parts}
 use Rattle.eco_entities.specs.declared.place.Place.{Place}
 use Rattle.eco_entities.specs.Registration.{Registration, own_place}
 use Rattle.eco_tables.specs.Column.{retyped}
 use Rattle.eco_tables.specs.Table.{TableState}
-use Rattle.eco_tables.specs.Tables.{table_in, no_row, no_table, AllHaveIds}
+use Rattle.eco_tables.specs.Tables.{slot_of, table_in, no_table, AllHaveIds}
 use Rattle.eco_index.specs.Edges.{toggled}
-use Rattle.eco_archetypes.specs.Archetypes.{KeepsRoom, KeepsTypes, SameSlots, TakesType}
-use Rattle.eco_store.specs.Layout.{ids_at, rows_in, RetypesRow}
+use Rattle.eco_archetypes.specs.Archetypes.{KeepsRoom, KeepsTypes, MayTakeType, SameSlots}
+use Rattle.eco_archetypes.specs.Widths.{StillCover}
+use Rattle.eco_archetypes.proofs.ArchetypeLemmas.{rows_from_slots}
+use Rattle.eco_store.specs.declared.layout.Layout.{Layout}
+use Rattle.eco_store.specs.Layout.{seen, IsLaid}
 use Rattle.eco_store.specs.Moving.{arriving, AdmitsRow, LeavesRoom}
-use Rattle.eco_store.specs.Store.{IsStore, read, record_ids, stepped, type_in_store, with_toggled, with_type}
-use Rattle.eco_store.proofs.Stepping.{toggled_as, toggled_typed, type_there}
-use Rattle.eco_store.proofs.StoreChanges.{row_within}
-use Rattle.eco_store.proofs.Taking.{takes_row}
+use Rattle.eco_store.specs.Staying.{all_staying}
+use Rattle.eco_store.specs.Store.{read, record_ids, stepped, type_in_store, with_toggled}
+use Rattle.eco_store.proofs.Laid.{laid_slots}
+use Rattle.eco_store.proofs.Stepping.{leads_to, standing_type}
+use Rattle.eco_store.proofs.StoreChanges.{row_within, same_read}
+use Rattle.eco_store.proofs.Taking.{takes_row, takes_rowless}
 use Rattle.eco_store.proofs.Values.{alive_same, written_read, written_store}
 use Rattle.eco_store.proofs.Views.{alive_record}
 
@@ -66,36 +71,60 @@ module _ (w : Indexed Registration) (s : List (Option TableState)) where
   steps_other_way a b lives also apart =
       other_way (read w s) a.0 b.0 (with_toggled a.1) (with_toggled b.1) (lives_there a.0 lives) (lives_there b.0 also) apart
 
-  module _ (e : Entity) (p : Place) (store : IsStore w s) (own : own_place w e ≡ Some p) (had : AllHaveIds s) where
-    -- an entity's type is that of its table
-    type_kept : type_in_store (read w s) e ≡ Some (table_in s p.table).ids
-    type_kept = type_there w s e p store own ∙ ap Some (had p.table p.row no_row (row_within w s e p store own))
+  -- the type of one stays while another steps
+  pub type_beside : (first : Entity × Id) (e : Entity) (ids : List Id) → IsTrue (is_alive w first.0) → IsTrue (is_alive w e) → first.0 ≢ e
+      → type_in_store (read w s) e ≡ Some ids → type_in_store (stepped (read w s) first) e ≡ Some ids
+  type_beside first e ids lives also apart typed =
+      ap (option_map record_ids) (other_kept (read w s) first.0 e (with_toggled first.1) (lives_there first.0 lives) (lives_there e also) apart) ∙ typed
 
-    -- whose table takes its next type steps
-    pub turns : (s1 : List (Option TableState)) (i : Id) → TakesType s s1 p.table (toggled (table_in s p.table).ids i) → length (table_in s p.table).rows ≡ 1
-        → IsStore w s1 × (read w s1 ≡ stepped (read w s) (e, i))
-    turns s1 i takes alone =
-        let row = row_within w s e p store own in
-        let ids = toggled (ids_at s p) i in
-        let retypes = subst (RetypesRow (rows_in s) (rows_in s1) p) (ap (λ xs. toggled xs i) (sym (had p.table p.row no_row row)))
-        (takes_row s s1 p _ takes alone row) in (
-          written_store w s s1 e p (retyped ids) store own retypes,
-          written_read w s s1 e p (retyped ids) store own retypes ∙ toggled_as w s e p i store own,
-        )
+-- ---- the table of who stands alone
 
-    -- who goes to a table of its next type steps
-    pub goes_over : (v : Indexed Record) (ids : List Id) (i : Id) → v ≡ read w s → ids ≡ toggled (table_in s p.table).ids i
-        → changed v e (with_type ids) ≡ stepped (read w s) (e, i)
-    goes_over v ids i is typed = (λ t. changed (is t) e (with_type (typed t))) ∙ toggled_typed (read w s) e _ i type_kept
+module _ (l : Layout) (s : List (Option TableState)) (e : Entity) (p : Place) (i : Id) (laid : IsLaid l) (own : own_place l.entities e ≡ Some p)
+    (had : AllHaveIds l.archetypes) (widths : StillCover l.entities l.archetypes s) where
+  abbrev pub turned : Layout
+  turned = record { entities = l.entities; archetypes = s; staying = l.staying }
 
-    -- and so does who goes there once another stepped
-    pub goes_after : (first : Entity × Id) (i : Id) (v : Indexed Record) (ids : List Id) → IsTrue (is_alive w first.0) → IsTrue (is_alive w e) → first.0 ≢ e
-        → v ≡ stepped (read w s) first → ids ≡ toggled (table_in s p.table).ids i
-        → changed v e (with_type ids) ≡ stepped (stepped (read w s) first) (e, i)
-    goes_after first i v ids lives also apart is typed =
-        (λ t. changed (is t) e (with_type (typed t)))
-        ∙ toggled_typed (stepped (read w s) first) e (table_in s p.table).ids i
-        (ap (option_map record_ids) (other_kept (read w s) first.0 e (with_toggled first.1) (lives_there first.0 lives) (lives_there e also) apart) ∙ type_kept)
+  abbrev ids : List Id
+  ids = toggled (table_in l.archetypes p.table).ids i
+
+  -- it takes the entity's next type, or stays as it was
+  pub may_turn : {E : Type 0} (r : Result Bool E) → IfOk r (MayTakeType l.archetypes s p.table ids) → OnErr r (SameSlots l.archetypes s)
+      → record {
+        laid : IsLaid turned;
+        took : IfOk r (λ took. MatchBool took (seen turned ≡ stepped (seen l) (e, i)) (SameSlots l.archetypes s));
+        others : (m : ℕ) → m ≢ p.table → slot_of s m ≡ slot_of l.archetypes m;
+        err : OnErr r (seen turned ≡ seen l);
+      }
+  may_turn (Ok true) takes err =
+      let retypes = takes_row l.archetypes s p ids takes.0 takes.1 (row_within l.entities l.archetypes e p laid.store own) in
+      record {
+        laid = record {
+          store = written_store l.entities l.archetypes s e p (retyped ids) laid.store own retypes;
+          covers = widths laid.covers;
+          tidy = takes_rowless l.archetypes s p.table ids takes.0 takes.1 (all_staying l.staying) laid.tidy;
+        };
+        took =
+            written_read l.entities l.archetypes s e p (retyped ids) laid.store own retypes
+            ∙ leads_to (seen l) e _ (standing_type l.entities l.archetypes e p laid.store own had) (λ xs. toggled xs i);
+        others = takes.0.others;
+        err = tt;
+      }
+  may_turn (Ok false) same err = record {
+    laid = laid_slots l s laid widths same;
+    took = same;
+    others = λ m other. same m;
+    err = tt;
+  }
+  may_turn (Err refused) ok same = record {
+    laid = laid_slots l s laid widths same;
+    took = tt;
+    others = λ m other. same m;
+    err = same_read l.entities l.archetypes s (rows_from_slots _ _ same);
+  }
+
+pub not_turned : (P Q : Type 0) (took : Bool) → took ≡ false → MatchBool took P Q → Q
+not_turned P Q true is h = absurd (cc)
+not_turned P Q false is h = h
 
 -- ---- the table that is kept
 
@@ -106,11 +135,10 @@ few_arrive to n = by (nat_eq to n)
     by true = omega arith
     by false = omega arith
 
-pub turn_leaves : (s s1 : List (Option TableState)) (n kept : ℕ) (ids : List Id) → TakesType s s1 n ids → kept ≢ n → LeavesRoom s s1 kept
-turn_leaves s s1 n kept ids takes apart =
-    let same = takes.others kept apart in
-    let room = ap (λ o. (unwrap_or o no_table).room) same in
-    record { types = λ had is. ap (option_map (λ (t : TableState). t.ids)) same ∙ is; room = omega (arith, room) }
+pub turn_leaves : (s s1 : List (Option TableState)) (n kept : ℕ) → ((m : ℕ) → m ≢ n → slot_of s1 m ≡ slot_of s m) → kept ≢ n → LeavesRoom s s1 kept
+turn_leaves s s1 n kept others apart =
+    let room = ap (λ o. (unwrap_or o no_table).room) (others kept apart) in
+    record { types = λ had is. ap (option_map (λ (t : TableState). t.ids)) (others kept apart) ∙ is; room = omega (arith, room) }
 
 pub move_leaves : (s s1 s2 : List (Option TableState)) (kept to : ℕ) (targets : List ℕ) → KeepsTypes s s1 → KeepsRoom s s1 → AdmitsRow s1 s2 targets to
     → IsTrue (list_any (nat_eq kept) targets) → LeavesRoom s s2 kept
@@ -125,7 +153,3 @@ leaves_from s s1 s2 kept same leaves =
     let room = ap (λ o. (unwrap_or o no_table).room) (same kept) in
     let left = leaves.room in
     record { types = λ ids is. leaves.types ids (ap (option_map (λ (t : TableState). t.ids)) (same kept) ∙ is); room = omega (arith, room, left) }
-
-pub on_ok : {A E P Q : Type 0} (r : Result A E) → (P → Q) → OnOk r P → OnOk r Q
-on_ok (Ok a) f h = f h
-on_ok (Err e) f h = h

@@ -1,19 +1,16 @@
 -- Many entities die, one after another.
 use Rattle.std.proofs.Common.{◌≡◌, ◌≢◌, ℕ, zero, suc, ◌+◌, ◌<◌, Bool, true, false, true≢false, ◌||◌, IsTrue, if◌then◌else◌, List, [], ◌∷◌, ◌++◌, drop}
-use Rattle.std.proofs.Common.{take, set, length, get_or, slice_get, Option, Some, None, option_map, is_some, nat_lt, refl, sym, ap, ◌∙◌, arith, inl}
-use Rattle.std.proofs.Common.{inr}
-use Rattle.std.proofs.lemmas.Bool.{cases_eq}
+use Rattle.std.proofs.Common.{take, length, get_or, slice_get, Option, Some, None, option_map, is_some, refl, sym, ap, ◌∙◌, arith}
 use Rattle.std.proofs.lemmas.List.{drop-take, take-append-drop, take-take, take_more}
 use Rattle.std.proofs.lemmas.List.Folds.{list_any-append}
 use Rattle.eco_ids.specs.declared.entity.Entity.{Entity}
 use Rattle.eco_ids.specs.Indices.{Indexed, IndexState, Retired, Free, Living, record_in, is_alive, with_death, map_from, raised}
 use Rattle.eco_ids.specs.Order.{entity_cmp, entity_eq, has_item}
 use Rattle.eco_ids.specs.World.{Record}
-use Rattle.eco_ids.proofs.Lists.{slice_get-set_there, slice_get-set_other}
 use Rattle.eco_ids.proofs.Overlaps.{entity_eq_is, entity_eq_itself}
 use Rattle.eco_ids.proofs.States.{living_at, record_here}
 use Rattle.eco_store.specs.Deaths.{death_at, after_deaths}
-use Rattle.eco_store.proofs.Views.{ext_slice_get, alive_record}
+use Rattle.eco_store.proofs.Views.{alike_but, alike_set, alive_record, raised_either}
 
 get_map_from : (f : ℕ → IndexState Record → IndexState Record) (n : ℕ) (xs : List (IndexState Record)) (k : ℕ)
     → slice_get (map_from f n xs) k ≡ option_map (f (n + k)) (slice_get xs k)
@@ -29,11 +26,8 @@ at_index f xs k = let own : 0 + k ≡ k = omega arith in get_map_from f 0 xs k �
 
 -- who died lives no more
 none_lives : (g h : ℕ) (r : Record) → ◌≡◌ {A = Option (IndexState Record)} (Some (raised g)) (Some (Living h r)) → ⊥
-none_lives g h r = by (nat_lt g 65535)
-  where
-    by : (b : Bool) → ◌≡◌ {A = Option (IndexState Record)} (Some (if b then Free (g + 1) else Retired)) (Some (Living h r)) → ⊥
-    by true same = absurd (cc)
-    by false same = absurd (cc)
+none_lives g h r =
+    raised_either g (λ x. ◌≡◌ {A = Option (IndexState Record)} (Some x) (Some (Living h r)) → ⊥) (λ k same. absurd (cc)) (λ same. absurd (cc))
 
 module _ (dies more : Entity → Bool) (e : Entity) (one_more : (x : Entity) → more x ≡ (dies x || entity_eq e x)) where
   as_before : (x : Entity) → e ≢ x → more x ≡ dies x
@@ -99,35 +93,22 @@ module _ (dies more : Entity → Bool) (e : Entity) (one_more : (x : Entity) →
   pub one_dies : (w : Indexed Record) → IsTrue (is_alive (after_deaths w dies) e) → after_deaths w more ≡ with_death (after_deaths w dies) e
   one_dies w lives =
       let before = map_from (death_at dies) 0 w.indices in
-      let now = set before e.index (raised e.generation) in
       let r = alive_record (after_deaths w dies) e lives in
       let was = living_at (after_deaths w dies) e r.0 r.1 in
       let there = sym (at_index (death_at dies) w.indices e.index) ∙ was in
-      let same : map_from (death_at more) 0 w.indices ≡ now =
-      ext_slice_get (map_from (death_at more) 0 w.indices) now (λ j. at_index (death_at more) w.indices j
-      ∙ elim (cases_eq j e.index) as (λ _. option_map (death_at more j) (slice_get w.indices j) ≡ slice_get now j) [
-        | inl here ↦
-            ap (λ i. option_map (death_at more i) (slice_get w.indices i)) here ∙ kills (slice_get w.indices e.index) r.0 there
-            ∙ sym (ap (slice_get now) here ∙ slice_get-set_there before e.index (raised e.generation) _ was)
-        | inr other ↦
-            elsewhere j (slice_get w.indices j) other ∙ sym (at_index (death_at dies) w.indices j)
-            ∙ sym (slice_get-set_other before e.index j (raised e.generation) other)
-      ]) in
+      let all = at_index (death_at more) w.indices in
+      let same = alike_set (map_from (death_at more) 0 w.indices) before e.index (raised e.generation) _ was (all e.index ∙ kills _ r.0 there)
+      (λ j other. all j ∙ elsewhere j (slice_get w.indices j) other ∙ sym (at_index (death_at dies) w.indices j)) in
       λ t. record { limit = w.limit; indices = same t }
 
   pub none_dies : (w : Indexed Record) → is_alive (after_deaths w dies) e ≡ false → after_deaths w more ≡ after_deaths w dies
   none_dies w dead =
       let before = map_from (death_at dies) 0 w.indices in
       let gone = ap (λ o. is_some (record_in o e.generation)) (sym (at_index (death_at dies) w.indices e.index)) ∙ dead in
-      let same : map_from (death_at more) 0 w.indices ≡ before =
-      ext_slice_get (map_from (death_at more) 0 w.indices) before (λ j. at_index (death_at more) w.indices j
-      ∙ elim (cases_eq j e.index) as (λ _. option_map (death_at more j) (slice_get w.indices j) ≡ option_map (death_at dies j) (slice_get w.indices j)) [
-        | inl here ↦
-            ap (λ i. option_map (death_at more i) (slice_get w.indices i)) here ∙ passes (slice_get w.indices e.index) gone
-            ∙ sym (ap (λ i. option_map (death_at dies i) (slice_get w.indices i)) here)
-        | inr other ↦ elsewhere j (slice_get w.indices j) other
-      ]
-      ∙ sym (at_index (death_at dies) w.indices j)) in
+      let all = at_index (death_at more) w.indices in
+      let same = alike_but (map_from (death_at more) 0 w.indices) before e.index
+      (all e.index ∙ passes (slice_get w.indices e.index) gone ∙ sym (at_index (death_at dies) w.indices e.index))
+      (λ j other. all j ∙ elsewhere j (slice_get w.indices j) other ∙ sym (at_index (death_at dies) w.indices j)) in
       λ t. record { limit = w.limit; indices = same t }
 
 -- the first of some entities, and one more
@@ -174,11 +155,7 @@ first_passes w es d some dead =
 -- some die, and then others
 module _ (f g : Entity → Bool) where
   stays_dead : (n h : ℕ) → death_at g n (raised h) ≡ raised h
-  stays_dead n h = by (nat_lt h 65535)
-    where
-      by : (b : Bool) → death_at g n (if b then Free (h + 1) else Retired) ≡ (if b then Free (h + 1) else Retired)
-      by true = refl
-      by false = refl
+  stays_dead n h = raised_either h (λ x. death_at g n x ≡ x) (λ k. refl) refl
 
   both_at : (n : ℕ) (x : IndexState Record) → death_at g n (death_at f n x) ≡ death_at (λ e. f e || g e) n x
   both_at n Retired = refl

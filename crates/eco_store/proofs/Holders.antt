@@ -1,5 +1,5 @@
 -- Who has ids that pass a test stands in a table whose type does.
-use Rattle.std.proofs.Common.{◌≡◌, ◌≢◌, ℕ, zero, suc, ◌<◌, Bool, true, false, true≢false, ◌&&◌, ◌||◌, IsTrue, ◌↔◌, nat_eq, nat_lt, List, [], ◌∷◌, map, length}
+use Rattle.std.proofs.Common.{◌≡◌, ◌≢◌, ℕ, ◌<◌, Bool, true, false, true≢false, ◌&&◌, ◌||◌, IsTrue, ◌↔◌, nat_eq, nat_lt, List, [], ◌∷◌, map, length}
 use Rattle.std.proofs.Common.{get_or, slice_get, Option, Some, None, option_map, unwrap_or, refl, sym, ap, ◌∙◌, subst, arith, inl, inr}
 use Rattle.std.specs.List.{AllByRecursion, Contains, IsDistinct, list_any}
 use Rattle.std.proofs.lemmas.Bool.Decides.{Decides-eqb, nat_tests}
@@ -22,16 +22,11 @@ use Rattle.eco_ids.proofs.Ascending.{first, second}
 use Rattle.eco_ids.proofs.Facts.{or_right}
 use Rattle.eco_store.proofs.Sorting.{Apart, apart_append}
 use Rattle.eco_store.proofs.Values.{stands_type}
+use Rattle.std.proofs.lemmas.Option.{slice_get_within}
 
 pub first_row : (rows : List TableRow) → 0 < length rows → (r : TableRow) × (slice_get rows 0 ≡ Some r)
 first_row [] none = absurd (omega arith)
 first_row (r ∷ rows) some = (r, refl)
-
--- a row that is there stands within its table
-pub row_within : (rows : List TableRow) (k : ℕ) (r : TableRow) → slice_get rows k ≡ Some r → k < length rows
-row_within [] k r at = absurd (cc)
-row_within (x ∷ rows) zero r at = omega arith
-row_within (x ∷ rows) (suc k) r at = let rest = row_within rows k r at in omega (arith, rest)
 
 -- the table has rows and a match exactly where it is found
 pub is_found_there : (test : List Id → Bool) (o : Option TableState) → 0 < length (unwrap_or o no_table).rows → test (unwrap_or o no_table).ids ≡ true →
@@ -75,7 +70,7 @@ module _ (w : Indexed Record) (s : List (Option TableState)) (test : List Id →
       let there = shown.living e own.0 own.1 in
       let kept = row_kept there.0 there.1 there.2 there.3 in
       let same : kept.0 ≡ own.0 = same_Some _ _ (sym kept.1 ∙ ap (record_of w) there.4 ∙ own.1) in
-      let within = row_within (table_in s there.0).rows there.1 there.2 there.3 in
+      let within = slice_get_within (table_in s there.0).rows there.1 there.2 there.3 in
       let matches = ap test (sym kept.2) ∙ ap (passes test) same ∙ own.2 in
       (there.0, there.1, there.2, there.3, there.4, is_found_there test (slot_of s there.0) (omega (arith, within)) matches)
 
@@ -127,7 +122,7 @@ module _ (w : Indexed Record) (s : List (Option TableState)) (test : List Id →
 
   rows_contain : (rows : List TableRow) (row : ℕ) (r : TableRow) → slice_get rows row ≡ Some r → Contains (entities_of rows) r.entity
   rows_contain rows row r at =
-      let within = row_within rows row r at in (
+      let within = slice_get_within rows row r at in (
         row,
         rw length-map within,
         get_or-map (λ (x : TableRow). x.entity) rows row r r.entity within

@@ -1,21 +1,30 @@
 -- The parts of a layout agree after a step of a call, and what is seen of it.
 use Rattle.std.proofs.Common.{◌≡◌, ℕ, List, [], ◌∷◌, IsTrue, Option, None, is_some, unwrap_or, nat_eq, slice_get, refl, sym, ap, subst, ◌∙◌, true≢false}
+use Rattle.std.proofs.Common.{Result, Ok, Err, OnOk, OnErr, MatchResult, Some, length}
 use Rattle.std.proofs.lemmas.Option.{none-some}
 use Rattle.std.specs.List.{list_any}
-use Rattle.eco_ids.specs.Indices.{Indexed}
+use Rattle.eco_ids.specs.declared.entity.Entity.{Entity}
+use Rattle.eco_ids.specs.declared.id.Id.{Id}
+use Rattle.eco_ids.specs.Indices.{Indexed, changed}
+use Rattle.eco_ids.specs.World.{Record}
+use Rattle.eco_ids.proofs.Results.{on_ok, on_err}
 use Rattle.eco_tables.specs.Table.{TableState, width_in}
-use Rattle.eco_tables.specs.Tables.{no_table, rowless_type, slot_of}
+use Rattle.eco_tables.specs.Tables.{new_row, no_table, rowless_type, slot_of, table_in, with_row, SetsSlot}
+use Rattle.eco_entities.specs.Needs.{need}
 use Rattle.eco_entities.specs.Registration.{Registration}
-use Rattle.eco_archetypes.specs.Archetypes.{RowlessIn, SameRows}
-use Rattle.eco_archetypes.specs.Widths.{StillCover}
-use Rattle.eco_archetypes.proofs.ArchetypeLemmas.{then_rows}
+use Rattle.eco_entities.specs.declared.place.Place.{Place}
+use Rattle.eco_archetypes.specs.Archetypes.{type_at, RowlessBut, RowlessIn, SameRows, SameSlots}
+use Rattle.eco_archetypes.specs.Widths.{MeetsNeeds, StillCover}
+use Rattle.eco_archetypes.proofs.ArchetypeLemmas.{rows_from_slots, then_rows, typed_table}
 use Rattle.eco_store.specs.declared.layout.Layout.{Layout}
-use Rattle.eco_store.specs.Layout.{seen, Carries, IsLaid, IsLaidBut, IsSettled, Plans}
+use Rattle.eco_store.specs.Layout.{rows_in, seen, Carries, IsLaid, IsLaidBeside, IsLaidBut, IsSettled, Plans, PutsRow}
 use Rattle.eco_store.specs.Staying.{StayingState, all_staying, only_idle, with_target}
-use Rattle.eco_store.specs.Store.{HasPlace, read, seat_in}
+use Rattle.eco_store.specs.Store.{HasPlace, IsStore, read, seat_in, with_type}
 use Rattle.eco_store.proofs.Coming.{admits_none}
-use Rattle.eco_store.proofs.Rowless.{rowless_targeted}
+use Rattle.eco_store.proofs.LaidRows.{row_puts, rows_alike}
+use Rattle.eco_store.proofs.Rowless.{rowless_filled, rowless_targeted}
 use Rattle.eco_store.proofs.StoreChanges.{same_read, same_store}
+use Rattle.eco_store.proofs.Taking.{rowless_slots}
 use Rattle.eco_store.proofs.Targets.{still_targeted}
 
 -- the same entities stand in the same rows
@@ -29,6 +38,60 @@ laid_alike l s q xs ys laid rows widths tidy = record {
   covers = widths laid.covers;
   tidy = tidy;
 }
+
+-- no slot has changed
+pub laid_slots : (l : Layout) (s : List (Option TableState)) → IsLaid l → StillCover l.entities l.archetypes s → SameSlots l.archetypes s
+    → IsLaid (record { entities = l.entities; archetypes = s; staying = l.staying })
+laid_slots l s laid widths same =
+    laid_alike l s l.staying _ _ laid (rows_from_slots _ _ same) widths (rowless_slots l.archetypes s (all_staying l.staying) same laid.tidy)
+
+-- ---- a table is sought for an entity that goes there: no row has changed
+
+module _ (l : Layout) (s : List (Option TableState)) (rows : SameRows l.archetypes s) where
+  abbrev pub sought : Layout
+  sought = record { entities = l.entities; archetypes = s; staying = l.staying }
+
+  module _ {E : Type 0} (r : Result ℕ E) (rowless : RowlessBut l.archetypes s r) (widths : StillCover l.entities l.archetypes s) where
+    pub sought_laid : IsLaid l → MatchResult r (λ n. IsLaidBeside sought n) (λ e. IsLaid sought)
+    sought_laid laid = by r (rowless (all_staying l.staying) laid.tidy)
+      where
+        by : (r : Result ℕ E) → MatchResult r (λ n. RowlessIn s (n ∷ all_staying l.staying)) (λ e. RowlessIn s (all_staying l.staying))
+            → MatchResult r (λ n. IsLaidBeside sought n) (λ e. IsLaid sought)
+        by (Ok n) tidy = laid_alike l s l.staying _ _ laid rows widths tidy
+        by (Err e) tidy = laid_alike l s l.staying _ _ laid rows widths tidy
+
+  -- none was found
+  pub sought_settled : IsSettled l → StillCover l.entities l.archetypes s → ((slots : List ℕ) → RowlessIn l.archetypes slots → RowlessIn s slots)
+      → IsSettled sought
+  sought_settled settled widths rowless = record {
+    laid = laid_alike l s l.staying _ _ settled.laid rows widths (rowless (all_staying l.staying) settled.laid.tidy);
+    done = settled.done;
+  }
+
+  -- who went there has the type
+  module _ {A E : Type 0} (r : Result A E) (v : Indexed Record) where
+    pub sought_ok : (e : Entity) (ids : List Id) (f : Record → Record) → changed (seen l) e (with_type ids) ≡ changed (seen l) e f
+        → OnOk r (v ≡ changed (seen sought) e (with_type ids)) → OnOk r (v ≡ changed (seen l) e f)
+    sought_ok e ids f same = on_ok r (λ is. is ∙ ap (λ v. changed v e (with_type ids)) (same_read l.entities l.archetypes s rows) ∙ same)
+
+    pub sought_err : OnErr r (v ≡ seen sought) → OnErr r (v ≡ seen l)
+    sought_err = on_err r (λ is. is ∙ same_read l.entities l.archetypes s rows)
+
+-- a row came to the end of a table that was found for it
+module _ (l : Layout) (s s1 : List (Option TableState)) (p : Place) (e : Entity) (ids : List Id) (rows : SameRows l.archetypes s)
+    (typed : type_at s p.table ≡ Some ids) (end : p.row ≡ length (rows_in s p.table))
+    (pushed : SetsSlot s s1 p.table (Some (with_row (table_in s p.table) (new_row e)))) where
+  pub found_puts : PutsRow (rows_in l.archetypes) (rows_in s1) p e ids
+  found_puts =
+      subst (λ R. PutsRow R (rows_in s1) p e ids) (rows_alike l.archetypes s rows) (row_puts s s1 p e ids (typed_table s p.table ids typed) end pushed)
+
+  pub found_laid : (w : Indexed Registration) → IsStore w s1 → MeetsNeeds (need w) s1 → RowlessIn s (p.table ∷ all_staying l.staying)
+      → IsLaid (record { entities = w; archetypes = s1; staying = l.staying })
+  found_laid w store covers tidy = record {
+    store = store;
+    covers = covers;
+    tidy = rowless_filled s s1 p.table (all_staying l.staying) (table_in s p.table) (new_row e) pushed tidy;
+  }
 
 -- nobody lives, and there is no table
 pub laid_empty : (w : Indexed Registration) (s : List (Option TableState)) (p : StayingState) → w.indices ≡ [] → ((n : ℕ) → slot_of s n ≡ None)

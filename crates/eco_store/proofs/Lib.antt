@@ -1,5 +1,4 @@
 pub mod Holders
-pub mod Moves
 pub mod RowChanges
 pub mod SeatChanges
 pub mod Views
@@ -19,7 +18,6 @@ pub mod Rowless
 pub mod FoundTypes
 pub mod Ranking
 pub mod Stepping
-pub mod Exchanges
 pub mod WholeMoves
 pub mod Needing
 pub mod Lent

@@ -1,5 +1,5 @@
 -- A new entity: what is known of the indices, and what a store shows of them.
-use Rattle.std.proofs.Common.{◌≡◌, ◌≢◌, ℕ, zero, suc, ◌<◌, ◌≤◌, ◌+◌, Bool, true, false, not, ◌&&◌, nat_lt, List, [], ◌∷◌, ◌++◌, map, length, slice_get, Option}
+use Rattle.std.proofs.Common.{◌≡◌, ◌≢◌, ℕ, suc, ◌<◌, ◌≤◌, ◌+◌, Bool, true, false, not, ◌&&◌, nat_lt, List, [], ◌∷◌, ◌++◌, map, length, slice_get, Option}
 use Rattle.std.proofs.Common.{Some, None, option_map, is_some, IsTrue, if◌then◌else◌, find, Result, Ok, Err, MatchBool, MatchOption, refl, sym, ap, subst, ◌∙◌}
 use Rattle.std.proofs.Common.{arith}
 use Rattle.std.specs.Option.{option_or}
@@ -9,11 +9,10 @@ use Rattle.eco_ids.specs.declared.entity.Entity.{Entity}
 use Rattle.eco_ids.specs.declared.refusal.Refusal.{Refusal}
 use Rattle.eco_ids.specs.Births.{unfit_name, Makes, may_make}
 use Rattle.eco_ids.specs.Indices.{Indexed, IndexState, Retired, Free, Living, with_record, with_new, next_entity, lowest_free, living_from, map_state}
-use Rattle.eco_ids.specs.declared.refusal.Refusal.TheVariants.{BadName, NameTaken, NoMoreIds}
+use Rattle.eco_ids.specs.declared.refusal.Refusal.TheVariants.{BadName, NameTaken, NoMoreIds, OutOfMemory}
 use Rattle.eco_ids.specs.Names.{is_called, named_entity, is_borne, is_proper}
 use Rattle.eco_ids.specs.Outcome.{first_refusal, Meets, is_out_of_memory, Refuses, Answers}
-use Rattle.eco_store.specs.Placing.{Opposes}
-use Rattle.eco_ids.proofs.Lists.{slice_get-push_last, slice_get-push_other, slice_get-set_there, slice_get-set_other}
+use Rattle.eco_ids.proofs.Lists.{slice_get-push_last, slice_get-push_other, slice_get-set_same, slice_get-set_other}
 
 -- nobody lives there
 abbrev pub Vacant : {A : Type 0} → Option (IndexState A) → Type 0
@@ -21,11 +20,6 @@ Vacant None = Unit {0}
 Vacant (Some Retired) = ⊥
 Vacant (Some (Free g)) = Unit {0}
 Vacant (Some (Living g r)) = ⊥
-
-get_below : {X : Type 0} (xs : List X) (j : ℕ) → j < length xs → (x : X) × (slice_get xs j ≡ Some x)
-get_below [] j h = absurd (omega arith)
-get_below (x ∷ xs) zero h = (x, refl)
-get_below (x ∷ xs) (suc j) h = get_below xs j (omega arith)
 
 module _ {A : Type 0} (w : Indexed A) (e : Entity) (d : A) (near : e.index ≤ length w.indices) where
   pub born_here : slice_get (with_new w e d).indices e.index ≡ Some (Living e.generation d)
@@ -36,8 +30,7 @@ module _ {A : Type 0} (w : Indexed A) (e : Entity) (d : A) (near : e.index ≤ l
           ≡ Some (Living e.generation d)
       by true h =
           let below : e.index < length w.indices = grind (arith, nat_tests) in
-          let had = get_below w.indices e.index below in
-          slice_get-set_there w.indices e.index (Living e.generation d) had.0 had.1
+          slice_get-set_same w.indices e.index (Living e.generation d) below
       by false h =
           let at_end : e.index ≡ length w.indices = grind (arith, nat_tests) in
           ap (slice_get (w.indices ++ Living e.generation d ∷ [])) at_end ∙ slice_get-push_last w.indices (Living e.generation d)
@@ -52,12 +45,12 @@ module _ {A : Type 0} (w : Indexed A) (e : Entity) (d : A) (near : e.index ≤ l
           let at_end : e.index ≡ length w.indices = grind (arith, nat_tests) in
           slice_get-push_other w.indices (Living e.generation d) j (λ q. other (q ∙ sym at_end))
 
-  pub born_limit : (with_new w e d).limit ≡ w.limit
-  born_limit = by (nat_lt e.index (length w.indices))
-    where
-      by : (b : Bool) → (if b then with_record w e d else record w { indices = w.indices ++ Living e.generation d ∷ [] }).limit ≡ w.limit
-      by true = refl
-      by false = refl
+pub born_limit : {A : Type 0} (w : Indexed A) (e : Entity) (d : A) → (with_new w e d).limit ≡ w.limit
+born_limit w e d = by (nat_lt e.index (length w.indices))
+  where
+    by : (b : Bool) → (if b then with_record w e d else record w { indices = w.indices ++ Living e.generation d ∷ [] }).limit ≡ w.limit
+    by true = refl
+    by false = refl
 
 -- the lowest free index
 lowest_is : {A : Type 0} (n : ℕ) (xs : List (IndexState A)) (e : Entity) → lowest_free n xs ≡ Some e
@@ -184,6 +177,13 @@ module _ {A B : Type 0} (f : A → B) (name_a : A → Option (List ℕ)) (name_b
   may_same : may_make name_b shown (name_b d') ≡ may_make name_a w (name_a d)
   may_same = λ t. not (is_some (unfit_same t)) && is_some (next_same t)
 
+  -- an end below is one here
+  ends_shown : (r : Result Entity Refusal) (new : Indexed B) → Ends (unfit_name name_a w (name_a d)) (next_entity w) (λ e. with_new shown e d') shown r new
+      → Makes name_b shown d' r new
+  ends_shown r new h =
+      subst (λ u. Ends u (next_entity shown) (λ e. with_new shown e d') shown r new) (sym unfit_same)
+      (subst (λ n. Ends (unfit_name name_a w (name_a d)) n (λ e. with_new shown e d') shown r new) (sym next_same) h)
+
   -- a creation that is refused below is refused so here
   pub create_refused : (new : Indexed A) (why : Refusal) → Meets (Makes name_a w d) (may_make name_a w (name_a d)) w (refused why) new
       → (new ≡ w) × Meets (Makes name_b shown d') (may_make name_b shown (name_b d')) shown (refused why) shown
@@ -193,17 +193,8 @@ module _ {A B : Type 0} (f : A → B) (name_a : A → Option (List ℕ)) (name_b
           → (new ≡ w) × MatchBool b (IsTrue (may_make name_b shown (name_b d')) × (shown ≡ shown)) (Makes name_b shown d' (refused why) shown)
       by true q = (q.1, (may_same ∙ q.0, refl))
       by false q =
-          let r = refused_ends (unfit_name name_a w (name_a d)) (next_entity w) (λ e. with_new w e d) (λ e. with_new shown e d') w new shown why q in (
-            r.0,
-            subst (λ u. MatchOption u
-                (MatchOption (next_entity shown) (Refuses NoMoreIds shown (refused why) shown) (λ e. Answers e (with_new shown e d') (refused why) shown))
-                (λ x. Refuses x shown (refused why) shown))
-                (sym unfit_same)
-                (subst (λ n. MatchOption (unfit_name name_a w (name_a d))
-                (MatchOption n (Refuses NoMoreIds shown (refused why) shown) (λ e. Answers e (with_new shown e d') (refused why) shown))
-                (λ x. Refuses x shown (refused why) shown))
-                (sym next_same) r.1),
-          )
+          let r = refused_ends (unfit_name name_a w (name_a d)) (next_entity w) (λ e. with_new w e d) (λ e. with_new shown e d') w new shown why q in
+          (r.0, ends_shown (refused why) shown r.1)
 
   -- one that succeeds makes the next entity
   pub create_made : (new : Indexed A) (e : Entity) → Meets (Makes name_a w d) (may_make name_a w (name_a d)) w (Ok e) new
@@ -214,11 +205,7 @@ module _ {A B : Type 0} (f : A → B) (name_a : A → Option (List ℕ)) (name_b
       → new' ≡ with_new shown e d' → Meets (Makes name_b shown d') (may_make name_b shown (name_b d')) shown (Ok e) new'
   create_done new new' e h is =
       let r = made_ends (unfit_name name_a w (name_a d)) (next_entity w) (λ x. with_new w x d) w new e h in
-      subst (λ u. MatchOption u (MatchOption (next_entity shown) (Refuses NoMoreIds shown (Ok e) new') (λ x. Answers x (with_new shown x d') (Ok e) new'))
-      (λ x. Refuses x shown (Ok e) new'))
-      (sym (unfit_same ∙ r.0))
-      (subst (λ n. MatchOption n (Refuses NoMoreIds shown (Ok e) new') (λ x. Answers x (with_new shown x d') (Ok e) new'))
-      (sym (next_same ∙ r.1)) (refl, is))
+      ends_shown (Ok e) new' (rw (r.0, r.1) (refl, is))
 
 -- no name is unfit for want of memory
 unfit_known : {A : Type 0} (name_of : A → Option (List ℕ)) (w : Indexed A) (name : Option (List ℕ)) (why : Refusal) → unfit_name name_of w name ≡ Some why
@@ -230,48 +217,15 @@ unfit_known name_of w name why = by (not (is_proper name)) (is_borne name_of w n
     by false true h = let same : NameTaken ≡ why = cc in ap (λ x. is_out_of_memory (refused x)) (sym same)
     by false false h = absurd (cc)
 
-module _ {A B : Type 0} (f : A → B) (name_a : A → Option (List ℕ)) (name_b : B → Option (List ℕ)) (names : (a : A) → name_b (f a) ≡ name_a a)
-    (w : Indexed A) (d' : B) (name : Option (List ℕ)) (same_name : name_b d' ≡ name) where
-  abbrev view_of : Indexed B
-  view_of = record { limit = w.limit; indices = map (map_state f) w.indices }
-
-  unfit_seen : unfit_name name_b view_of (name_b d') ≡ unfit_name name_a w name
-  unfit_seen = unfit_name-map f name_a name_b names w (name_b d') ∙ ap (unfit_name name_a w) same_name
-
-  next_seen : next_entity view_of ≡ next_entity w
-  next_seen = next_entity-map f name_a name_b names w
-
-  -- what was found to stand against the entity is the refusal
-  pub opposed : (why : Refusal) → Opposes (unfit_name name_a w name) (next_entity w) (Err why)
-      → Meets (Makes name_b view_of d') (may_make name_b view_of (name_b d')) view_of (refused why) view_of
-  opposed why h = by (unfit_name name_a w name) (next_entity w) refl refl h
-    where
-      by : (u : Option Refusal) (n : Option Entity) → unfit_name name_a w name ≡ u → next_entity w ≡ n → Opposes u n (Err why)
-          → Meets (Makes name_b view_of d') (may_make name_b view_of (name_b d')) view_of (refused why) view_of
-      by (Some x) n is_u is_n q =
-          let same : why ≡ x = let e : ◌≡◌ {A = Result (Unit {0}) Refusal} (Err why) (Err x) = q in cc in
-          subst (λ b. MatchBool b (IsTrue (may_make name_b view_of (name_b d')) × (view_of ≡ view_of)) (Makes name_b view_of d' (refused why) view_of))
-          (sym (unfit_known name_a w name why (is_u ∙ ap Some (sym same))))
-          (subst (λ u. MatchOption u
-          (MatchOption (next_entity view_of) (Refuses NoMoreIds view_of (refused why) view_of)
-          (λ e. Answers e (with_new view_of e d') (refused why) view_of)) (λ z. Refuses z view_of (refused why) view_of))
-          (sym (unfit_seen ∙ is_u)) (ap refused same, refl))
-      by None None is_u is_n q =
-          let same : why ≡ NoMoreIds = let e : ◌≡◌ {A = Result (Unit {0}) Refusal} (Err why) (Err NoMoreIds) = q in cc in
-          subst (λ x. Meets (Makes name_b view_of d') (may_make name_b view_of (name_b d')) view_of (refused x) view_of) (sym same)
-          (subst (λ u. MatchOption u
-          (MatchOption (next_entity view_of) (Refuses NoMoreIds view_of (refused NoMoreIds) view_of)
-          (λ e. Answers e (with_new view_of e d') (refused NoMoreIds) view_of)) (λ z. Refuses z view_of (refused NoMoreIds) view_of))
-          (sym (unfit_seen ∙ is_u))
-          (subst (λ n. MatchOption n (Refuses NoMoreIds view_of (refused NoMoreIds) view_of)
-          (λ e. Answers e (with_new view_of e d') (refused NoMoreIds) view_of)) (sym (next_seen ∙ is_n)) (refl, refl)))
-      by None (Some e) is_u is_n q = absurd (let bad : ◌≡◌ {A = Result (Unit {0}) Refusal} (Err why) (Ok tt) = q in cc)
-
-  -- where nothing does, memory may be wanted
-  pub unopposed : Opposes (unfit_name name_a w name) (next_entity w) (Ok tt) → IsTrue (may_make name_b view_of (name_b d'))
-  unopposed h = (λ t. not (is_some (unfit_seen t)) && is_some (next_seen t)) ∙ by (unfit_name name_a w name) (next_entity w) h
-    where
-      by : (u : Option Refusal) (n : Option Entity) → Opposes u n (Ok tt) → (not (is_some u) && is_some n) ≡ true
-      by (Some x) n q = absurd (let bad : ◌≡◌ {A = Result (Unit {0}) Refusal} (Ok tt) (Err x) = q in cc)
-      by None None q = absurd (let bad : ◌≡◌ {A = Result (Unit {0}) Refusal} (Ok tt) (Err NoMoreIds) = q in cc)
-      by None (Some e) q = refl
+-- what is found to stand against the entity is the refusal, else the want of memory
+pub refuses : {A : Type 0} (name_of : A → Option (List ℕ)) (w : Indexed A) (d : A) (why : Refusal)
+    → MatchOption (unfit_name name_of w (name_of d)) (MatchOption (next_entity w) (why ≡ NoMoreIds) (λ e. why ≡ OutOfMemory)) (λ x. why ≡ x)
+    → Meets (Makes name_of w d) (may_make name_of w (name_of d)) w (refused why) w
+refuses name_of w d why = by (unfit_name name_of w (name_of d)) (next_entity w) (unfit_known name_of w (name_of d))
+  where
+    by : (u : Option Refusal) (n : Option Entity) → ((x : Refusal) → u ≡ Some x → is_out_of_memory (refused x) ≡ false)
+        → MatchOption u (MatchOption n (why ≡ NoMoreIds) (λ e. why ≡ OutOfMemory)) (λ x. why ≡ x)
+        → MatchBool (is_out_of_memory (refused why)) (IsTrue (not (is_some u) && is_some n) × (w ≡ w)) (Ends u n (λ e. with_new w e d) w (refused why) w)
+    by (Some x) n known is = rw (is, known x refl) (refl, refl)
+    by None None known is = rw is (refl, refl)
+    by None (Some e) known is = rw is (refl, refl)

@@ -11,8 +11,7 @@ use Rattle.eco_store.specs.Seats.{Seat, seat_of}
 use Rattle.eco_store.specs.Store.{IsStore, seat_at}
 use Rattle.eco_ids.proofs.States.{record_at}
 use Rattle.eco_store.proofs.SeatChanges.{one_some}
-use Rattle.eco_store.proofs.StoreChanges.{seat_there}
-use Rattle.eco_store.proofs.Values.{place_from_seat}
+use Rattle.eco_store.proofs.StoreChanges.{place_from_seat, seat_there}
 
 -- what holds where there is nothing
 pub if_none : {A P : Type 0} (o : Option A) → P → IfNone o P

@@ -1,9 +1,8 @@
 -- Tables, their types and their room while all rows of some go to others.
 use Rattle.std.proofs.Common.{◌≡◌, ◌≢◌, ℕ, ◌+◌, ◌≤◌, ◌<◌, ◌==◌, Bool, true, false, if◌then◌else◌, List, [], ◌∷◌, ◌++◌, map, length, get_or, Option, Some, None}
-use Rattle.std.proofs.Common.{option_map, unwrap_or, is_some, IsSome, refl, sym, ap, subst, ◌∙◌, arith, inl, inr}
+use Rattle.std.proofs.Common.{option_map, unwrap_or, is_some, IsSome, refl, sym, ap, ◌∙◌, arith}
 use Rattle.std.specs.List.{All}
 use Rattle.std.proofs.Math.ListN.{get_or-map}
-use Rattle.std.proofs.lemmas.Bool.{cases_eq}
 use Rattle.std.proofs.lemmas.List.{length-map, map-append}
 use Rattle.std.proofs.lemmas.List.Elements.{All-head, All-nil, All-tail, All-push}
 use Rattle.eco_tables.specs.Table.{TableState}
@@ -16,7 +15,7 @@ use Rattle.eco_archetypes.specs.Archetypes.{type_at, KeepsTypes, SameRows}
 use Rattle.eco_store.specs.Retyping.{IsOneWay}
 use Rattle.eco_store.specs.Transfers.{change_of, IsPlan, due, HasRoom, Pours}
 use Rattle.eco_store.proofs.RowChanges.{is_equal}
-use Rattle.eco_store.proofs.Views.{ext_slice_get}
+use Rattle.eco_store.proofs.Views.{at_each, ext_slice_get}
 
 -- ---- types
 
@@ -144,32 +143,18 @@ pub room_rest : (s s' : List (Option TableState)) (t : Transfer) (ts : List Tran
     → All (λ u. t.to ≢ u.from) ts → All (λ u. u.to ≢ t.from) ts → HasRoom s' ts
 room_rest s s' t ts room pours apart none n =
     let fewer : due s' ts n ≤ due s ts n = due_fewer s s' ts n (λ k d within. shrinks (get_or ts k d).from (apart k d within)) in
-    elim (cases_eq n t.to) [
-      | inl here ↦
-          let brings = brought_here s t n here in
-          let had : due s (t ∷ ts) n ≤ (table_in s t.to).room = subst (λ m. due s (t ∷ ts) n ≤ (table_in s m).room) here (room n) in
-          let now : due s' ts n ≤ (table_in s' t.to).room = omega (arith, pours.room) in
-          subst (λ m. due s' ts n ≤ (table_in s' m).room) (sym here) now
-      | inr not_to ↦ elim (cases_eq n t.from) [
-        | inl here ↦
-            let nothing : due s' ts n ≡ 0 = due_none s' ts n (λ k d within e. none k d within (e ∙ here)) in
-            omega (arith, nothing)
-        | inr not_from ↦
-            let same = ap (λ o. (unwrap_or o no_table).room) (pours.others n not_from not_to) in
-            omega (arith, room n, same)
-      ]
-    ]
+    at_each t.to (λ n. due s' ts n ≤ due s ts n → due s' ts n ≤ (table_in s' n).room)
+    (λ fewer. omega (arith, brought_here s t t.to refl, room t.to, pours.room))
+    (at_each t.from (λ n. n ≢ t.to → due s' ts n ≤ due s ts n → due s' ts n ≤ (table_in s' n).room)
+    (λ not_to fewer. omega (arith, due_none s' ts t.from none))
+    (λ n not_from not_to fewer.
+    let same = ap (λ o. (unwrap_or o no_table).room) (pours.others n not_from not_to) in omega (arith, room n, same))) n fewer
   where
     shrinks : (m : ℕ) → t.to ≢ m → length (table_in s' m).rows ≤ length (table_in s m).rows
-    shrinks m not_to =
-        elim (cases_eq m t.from) [
-          | inl here ↦
-              let none : length (table_in s' m).rows ≡ 0 = ap (λ k. length (table_in s' k).rows) here ∙ pours.emptied in
-              omega (arith, none)
-          | inr other ↦
-              let same = ap (λ o. length (unwrap_or o no_table).rows) (pours.others m other (λ e. not_to (sym e))) in
-              omega (arith, same)
-        ]
+    shrinks =
+        at_each t.from (λ m. t.to ≢ m → length (table_in s' m).rows ≤ length (table_in s m).rows) (λ not_to. omega (arith, pours.emptied))
+        (λ m other not_to.
+        let same = ap (λ o. length (unwrap_or o no_table).rows) (pours.others m other (λ e. not_to (sym e))) in omega (arith, same))
 
 -- ---- taking room
 
@@ -191,15 +176,8 @@ room_more s s' ts t slot room same sets more n =
     let rows : length (table_in s' (get_or (ts ++ t ∷ []) k d).from).rows ≡ length (table_in s (get_or (ts ++ t ∷ []) k d).from).rows =
     ap length (rows_same s s' same (get_or (ts ++ t ∷ []) k d).from) in
     omega (arith, rows)) in
-    let parts = due_more s ts t n in
-    elim (cases_eq n t.to) [
-      | inl here ↦
-          let brings = brought_here s t n here in
-          let had : due s ts n ≤ (table_in s t.to).room = subst (λ m. due s ts n ≤ (table_in s m).room) here (room n) in
-          let now : due s' (ts ++ t ∷ []) n ≤ (table_in s' t.to).room = omega arith in
-          subst (λ m. due s' (ts ++ t ∷ []) n ≤ (table_in s' m).room) (sym here) now
-      | inr other ↦
-          let brings = brought_elsewhere s t n other in
-          let stays = ap (λ o. (unwrap_or o no_table).room) (sets.others n other) in
-          omega (arith, room n, stays)
-    ]
+    at_each t.to (λ n. due s' (ts ++ t ∷ []) n ≤ due s (ts ++ t ∷ []) n → due s' (ts ++ t ∷ []) n ≤ (table_in s' n).room)
+    (λ fewer. omega (arith, due_more s ts t t.to, brought_here s t t.to refl, room t.to, more))
+    (λ n other fewer.
+    let stays = ap (λ o. (unwrap_or o no_table).room) (sets.others n other) in
+    omega (arith, due_more s ts t n, brought_elsewhere s t n other, room n, stays)) n fewer

@@ -3,7 +3,6 @@ use Rattle.std.proofs.Common.{◌≡◌, ◌≢◌, ℕ, Bool, true, false, ◌|
 use Rattle.std.proofs.Common.{zero, suc, is_some, nat_eq, slice_get, slice_set, refl, sym, ap, subst, ◌∙◌, arith, inl, inr}
 use Rattle.std.specs.List.{list_any}
 use Rattle.std.proofs.lemmas.Bool.{cases_eq}
-use Rattle.std.proofs.lemmas.Bool.Decides.{Decides-eqb}
 use Rattle.std.proofs.lemmas.List.{length-append}
 use Rattle.eco_tables.specs.Table.{TableState, TableRow}
 use Rattle.eco_tables.specs.Tables.{slot_of, table_in, no_table, rowless, rowless_type, SetsSlot, Moves, with_row}
@@ -18,6 +17,8 @@ use Rattle.eco_store.proofs.Targets.{is_targeted, still_targeted}
 use Rattle.std.proofs.lemmas.List.Folds.{list_any-append}
 use Rattle.std.proofs.lemmas.Option.{same_Some}
 use Rattle.eco_store.proofs.Pouring.{rows_same}
+use Rattle.eco_store.proofs.RowChanges.{is_equal}
+use Rattle.eco_store.proofs.Views.{at_each}
 
 -- a table without rows is there, and has none
 pub rowless_there : (s : List (Option TableState)) (n : ℕ) → IsTrue (is_rowless s n) → IsSome (slot_of s n) × ((table_in s n).rows ≡ [])
@@ -43,14 +44,15 @@ pub rowless_more : (s : List (Option TableState)) (few many : List ℕ) → ((n 
     RowlessIn s few → RowlessIn s many
 rowless_more s few many more was n empty = more n (was n empty)
 
+among_first : (n : ℕ) (slots : List ℕ) → IsTrue (list_any (nat_eq n) (n ∷ slots))
+among_first n slots = ap (λ b. b || list_any (nat_eq n) slots) (is_equal n n refl)
+
 -- one of the slots is among the others
 pub rowless_twice : (s : List (Option TableState)) (n : ℕ) (slots : List ℕ) → IsTrue (list_any (nat_eq n) slots) → RowlessIn s (n ∷ slots) → RowlessIn s slots
 rowless_twice s n slots among =
-    rowless_more s (n ∷ slots) slots (λ m there.
-    elim (cases_eq m n) [
-      | inl here ↦ subst (λ k. IsTrue (list_any (nat_eq k) slots)) (sym here) among
-      | inr other ↦ sym (ap (λ b. b || list_any (nat_eq m) slots) (not_equal m n other)) ∙ there
-    ])
+    rowless_more s (n ∷ slots) slots
+    (at_each n (λ m. IsTrue (list_any (nat_eq m) (n ∷ slots)) → IsTrue (list_any (nat_eq m) slots)) (λ there. among)
+    (λ m other there. sym (ap (λ b. b || list_any (nat_eq m) slots) (not_equal m n other)) ∙ there))
 
 -- tables keep their types and their rows
 pub rowless_same : (s s' : List (Option TableState)) (slots : List ℕ) → SameRows s s' → SameTypes s s' → RowlessIn s slots → RowlessIn s' slots
@@ -65,37 +67,29 @@ module _ (s s' : List (Option TableState)) (n : ℕ) (slots : List ℕ) where
 
   -- a table got a row
   pub rowless_filled : (t : TableState) (r : TableRow) → SetsSlot s s' n (Some (with_row t r)) → RowlessIn s (n ∷ slots) → RowlessIn s' slots
-  rowless_filled t r sets was m empty =
-      elim (cases_eq m n) [
-        | inl here ↦
-            let none : length (table_in s' n).rows ≡ 0 = ap length (ap (λ k. (table_in s' k).rows) (sym here) ∙ (rowless_there s' m empty).1) in
-            let some : length (table_in s' n).rows ≡ length (with_row t r).rows = ap (λ o. length (unwrap_or o no_table).rows) sets.changed in
-            let len = length-append t.rows in
-            absurd (omega (arith, none, some, len))
-        | inr other ↦
-            sym (ap (λ b. b || list_any (nat_eq m) slots) (not_equal m n other)) ∙ was m (others_rowless (Some (with_row t r)) sets m other empty)
-      ]
+  rowless_filled t r sets was =
+      at_each n (λ m. IsTrue (is_rowless s' m) → IsTrue (list_any (nat_eq m) slots))
+      (λ empty.
+      let some : length (table_in s' n).rows ≡ length (with_row t r).rows = ap (λ o. length (unwrap_or o no_table).rows) sets.changed in
+      let len = length-append t.rows in
+      absurd (omega (arith, ap length (rowless_there s' n empty).1, some, len)))
+      (λ m other empty.
+      sym (ap (λ b. b || list_any (nat_eq m) slots) (not_equal m n other)) ∙ was m (others_rowless (Some (with_row t r)) sets m other empty))
 
   -- a table may have lost its last row
   pub rowless_emptied : (slot : Option TableState) → SetsSlot s s' n slot → RowlessIn s slots → RowlessIn s' (n ∷ slots)
-  rowless_emptied slot sets was m empty =
-      elim (cases_eq m n) [
-        | inl here ↦ ap (λ b. b || list_any (nat_eq m) slots) ((Decides-eqb m n).1 here)
-        | inr other ↦
-            ap (λ b. b || list_any (nat_eq m) slots) (not_equal m n other) ∙ was m (others_rowless slot sets m other empty)
-      ]
+  rowless_emptied slot sets was =
+      at_each n (λ m. IsTrue (is_rowless s' m) → IsTrue (list_any (nat_eq m) (n ∷ slots))) (λ empty. among_first n slots)
+      (λ m other empty. ap (λ b. b || list_any (nat_eq m) slots) (not_equal m n other) ∙ was m (others_rowless slot sets m other empty))
 
   -- a table has as many rows as before
   pub rowless_rewritten : (slot : Option TableState) → SetsSlot s s' n slot → length (table_in s' n).rows ≡ length (table_in s n).rows → IsSome (slot_of s n) →
       RowlessIn s slots → RowlessIn s' slots
-  rowless_rewritten slot sets as_many there was m empty =
-      elim (cases_eq m n) [
-        | inl here ↦
-            let none : length (table_in s' n).rows ≡ 0 = ap length (ap (λ k. (table_in s' k).rows) (sym here) ∙ (rowless_there s' m empty).1) in
-            subst (λ k. IsTrue (list_any (nat_eq k) slots)) (sym here)
-            (was n (rowless_from s n there (no_rows (table_in s n).rows (omega (arith, none, as_many)))))
-        | inr other ↦ was m (others_rowless slot sets m other empty)
-      ]
+  rowless_rewritten slot sets as_many there was =
+      at_each n (λ m. IsTrue (is_rowless s' m) → IsTrue (list_any (nat_eq m) slots))
+      (λ empty.
+      was n (rowless_from s n there (no_rows (table_in s n).rows (omega (arith, ap length (rowless_there s' n empty).1, as_many)))))
+      (λ m other empty. was m (others_rowless slot sets m other empty))
     where
       no_rows : (rows : List TableRow) → length rows ≡ 0 → rows ≡ []
       no_rows [] h = refl
@@ -104,21 +98,17 @@ module _ (s s' : List (Option TableState)) (n : ℕ) (slots : List ℕ) where
 -- a row went from one table to another
 pub rowless_moved : (s s' : List (Option TableState)) (from row to : ℕ) (slots : List ℕ) → Moves s s' from row to → RowlessIn s (to ∷ slots) →
     RowlessIn s' (from ∷ slots)
-rowless_moved s s' from row to slots moves was m empty =
-    elim (cases_eq m from) [
-      | inl here ↦ ap (λ b. b || list_any (nat_eq m) slots) ((Decides-eqb m from).1 here)
-      | inr not_from ↦ elim (cases_eq m to) [
-        | inl here ↦
-            let none : length (table_in s' to).rows ≡ 0 = ap length (ap (λ k. (table_in s' k).rows) (sym here) ∙ (rowless_there s' m empty).1) in
-            let some = ap (λ o. length (unwrap_or o no_table).rows) moves.target in
-            let len = length-append (table_in s to).rows in
-            absurd (omega (arith, none, some, len))
-        | inr not_to ↦
-            let before = sym (ap (λ o. is_some (rowless_type o)) (moves.others m not_from not_to)) ∙ empty in
-            ap (λ b. b || list_any (nat_eq m) slots) (not_equal m from not_from)
-            ∙ (sym (ap (λ b. b || list_any (nat_eq m) slots) (not_equal m to not_to)) ∙ was m before)
-      ]
-    ]
+rowless_moved s s' from row to slots moves was =
+    at_each from (λ m. IsTrue (is_rowless s' m) → IsTrue (list_any (nat_eq m) (from ∷ slots))) (λ empty. among_first from slots)
+    (at_each to (λ m. m ≢ from → IsTrue (is_rowless s' m) → IsTrue (list_any (nat_eq m) (from ∷ slots)))
+    (λ not_from empty.
+    let some = ap (λ o. length (unwrap_or o no_table).rows) moves.target in
+    let len = length-append (table_in s to).rows in
+    absurd (omega (arith, ap length (rowless_there s' to empty).1, some, len)))
+    (λ m not_to not_from empty.
+    let before = sym (ap (λ o. is_some (rowless_type o)) (moves.others m not_from not_to)) ∙ empty in
+    ap (λ b. b || list_any (nat_eq m) slots) (not_equal m from not_from)
+    ∙ (sym (ap (λ b. b || list_any (nat_eq m) slots) (not_equal m to not_to)) ∙ was m before)))
 
 or_turned : (a b c d e : Bool) → (IsTrue (a || d) → IsTrue (b || e)) → IsTrue (a || (c || d)) → IsTrue (b || (c || e))
 or_turned a true c d e kept h = refl
@@ -223,11 +213,7 @@ rowless_beside s n slots = rowless_more s slots (n ∷ slots) (λ m there. or_ri
 -- where all rows of a slot went to another, no table but those two is newly without rows
 pub rowless_poured : (s s' : List (Option TableState)) (from to : ℕ) → Pours s s' from to → (slots : List ℕ) → IsTrue (list_any (nat_eq from) slots)
     → IsTrue (list_any (nat_eq to) slots) → RowlessIn s slots → RowlessIn s' slots
-rowless_poured s s' from to pours slots has_from has_to was n without =
-    elim (cases_eq n from) [
-      | inl here ↦ ap (λ m. list_any (nat_eq m) slots) here ∙ has_from
-      | inr not_from ↦ elim (cases_eq n to) [
-        | inl here ↦ ap (λ m. list_any (nat_eq m) slots) here ∙ has_to
-        | inr not_to ↦ was n (sym (ap (λ o. is_some (rowless_type o)) (pours.others n not_from not_to)) ∙ without)
-      ]
-    ]
+rowless_poured s s' from to pours slots has_from has_to was =
+    at_each from (λ n. IsTrue (is_rowless s' n) → IsTrue (list_any (nat_eq n) slots)) (λ without. has_from)
+    (at_each to (λ n. n ≢ from → IsTrue (is_rowless s' n) → IsTrue (list_any (nat_eq n) slots)) (λ not_from without. has_to)
+    (λ n not_to not_from without. was n (sym (ap (λ o. is_some (rowless_type o)) (pours.others n not_from not_to)) ∙ without)))

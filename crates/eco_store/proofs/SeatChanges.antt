@@ -1,5 +1,5 @@
 -- What a row taken out and a row put in leave of the seats.
-use Rattle.std.proofs.Common.{◌≡◌, ◌≢◌, ℕ, Option, Some, None, option_map, refl, sym, ap, ◌∙◌, inl, inr}
+use Rattle.std.proofs.Common.{◌≡◌, ◌≢◌, ℕ, Option, Some, None, option_map, refl, sym, ap, subst, ◌∙◌, inl, inr}
 use Rattle.std.proofs.lemmas.Bool.{cases_eq}
 use Rattle.eco_ids.specs.declared.entity.Entity.{Entity}
 use Rattle.eco_tables.specs.Table.{TableRow}
@@ -25,12 +25,32 @@ no_some o x a b = let bad : ◌≡◌ {A = Option _} None (Some x) = sym a ∙ b
 pub one_some : {X : Type 0} (o : Option X) (x y : X) → o ≡ Some x → o ≡ Some y → x ≡ y
 one_some o x y a b = let both : ◌≡◌ {A = Option _} (Some x) (Some y) = sym a ∙ b in cc
 
+-- whose row it is
+abbrev pub who : Option TableRow → Option Entity
+who = option_map (λ (r : TableRow). r.entity)
+
+whose : (o : Option TableRow) (e : Entity) → who o ≡ Some e → (r : TableRow) × (o ≡ Some r) × (r.entity ≡ e)
+whose None e h = absurd (cc)
+whose (Some r) e h = (r, refl, cc)
+
+-- rows hold something else, each of the same entity
+pub rewritten_seated : (P : ℕ → Option Seat) (E E' : ℕ → ℕ → Option TableRow) → ((n k : ℕ) → who (E' n k) ≡ who (E n k)) → IsSeated P E → IsSeated P E'
+rewritten_seated P E E' same seated = record {
+  there = λ j p h.
+      let old = seated.there j p h in
+      let now = whose (E' p.slot p.row) old.0.entity (same p.slot p.row ∙ ap who old.1) in
+      (now.0, now.1, now.2 ∙ old.2);
+  back = λ n k x h.
+      let old = whose (E n k) x.entity (sym (same n k) ∙ ap who h) in
+      subst (λ (e : Entity). P e.index ≡ Some (seat_of e n k)) old.2 (seated.back n k old.0 old.1);
+}
+
 module _ (P P' : ℕ → Option Seat) (E E' : ℕ → ℕ → Option TableRow) (i g t end : ℕ) (r : TableRow)
     (seated : IsSeated P E) (pushed : Pushed E E' t end r) (was : P i ≡ None)
     (is : r.entity ≡ seated_entity i (record { generation = g; slot = t; row = end }))
     (now : P' i ≡ Some (record { generation = g; slot = t; row = end })) (kept : (j : ℕ) → j ≢ i → P' j ≡ P j) where
   -- a row elsewhere stays
-  pub push_keeps : (n k : ℕ) (x : TableRow) → E n k ≡ Some x → E' n k ≡ Some x
+  push_keeps : (n k : ℕ) (x : TableRow) → E n k ≡ Some x → E' n k ≡ Some x
   push_keeps n k x e =
       elim (cases_eq n t) [
         | inr other ↦ pushed.others n k other ∙ e
@@ -48,7 +68,7 @@ module _ (P P' : ℕ → Option Seat) (E E' : ℕ → ℕ → Option TableRow) (
             ap (λ m. E m k) same ∙ sym (pushed.others_here k (apart same)) ∙ ap (λ m. E' m k) (sym same) ∙ e
       ]
 
-  pub seated_pushed : IsSeated P' E'
+  seated_pushed : IsSeated P' E'
   seated_pushed = record {
     there = λ j p e.
         elim (cases_eq j i) [
@@ -78,7 +98,7 @@ module _ (P P' : ℕ → Option Seat) (E E' : ℕ → ℕ → Option TableRow) (
   }
 
   -- what is seen of another entity stays
-  pub pushed_seen : (j : ℕ) → j ≢ i → option_map (seen E') (P' j) ≡ option_map (seen E) (P j)
+  pushed_seen : (j : ℕ) → j ≢ i → option_map (seen E') (P' j) ≡ option_map (seen E) (P j)
   pushed_seen j other = ap (option_map (seen E')) (kept j other) ∙ by (P j) refl
     where
       by : (o : Option Seat) → P j ≡ o → option_map (seen E') o ≡ option_map (seen E) o
@@ -88,7 +108,10 @@ module _ (P P' : ℕ → Option Seat) (E E' : ℕ → ℕ → Option TableRow) (
           let new = push_keeps p.slot p.row old.0 old.1 in
           ap (λ o. Some (held_of o)) (new ∙ sym old.1)
 
-module _ (P P' : ℕ → Option Seat) (E E' : ℕ → ℕ → Option TableRow) (i g f row last : ℕ) (r m : TableRow)
+  pub pushed_change : IsSeated P' E' × ((j : ℕ) → j ≢ i → option_map (seen E') (P' j) ≡ option_map (seen E) (P j))
+  pushed_change = (seated_pushed, pushed_seen)
+
+module _ (P P' : ℕ → Option Seat) (E E' : ℕ → ℕ → Option TableRow) (i g f row last : ℕ) (m : TableRow)
     (seated : IsSeated P E) (removed : Removed E E' f row last)
     (at : P i ≡ Some (record { generation = g; slot = f; row = row }))
     (moved : E f last ≡ Some m)
@@ -126,7 +149,7 @@ module _ (P P' : ℕ → Option Seat) (E E' : ℕ → ℕ → Option TableRow) (
             ap (λ n. E' n p.row) same ∙ removed.others_here p.row (not_here j p not_i e same) (not_last j p not_m e same) ∙ ap (λ n. E n p.row) (sym same)
       ]
 
-  pub seated_removed : IsSeated P' E'
+  seated_removed : IsSeated P' E'
   seated_removed = record {
     there = λ j p e.
         elim (cases_eq j i) [
@@ -167,7 +190,8 @@ module _ (P P' : ℕ → Option Seat) (E E' : ℕ → ℕ → Option TableRow) (
         ];
   }
 
-  pub removed_seen : (j : ℕ) → j ≢ i → option_map (seen E') (P' j) ≡ option_map (seen E) (P j)
+  -- what is seen of another entity stays
+  removed_seen : (j : ℕ) → j ≢ i → option_map (seen E') (P' j) ≡ option_map (seen E) (P j)
   removed_seen j not_i =
       elim (cases_eq j m.entity.index) [
         | inl is_m ↦
@@ -182,3 +206,6 @@ module _ (P P' : ℕ → Option Seat) (E E' : ℕ → ℕ → Option TableRow) (
       by : (o : Option Seat) → P j ≡ o → j ≢ m.entity.index → option_map (seen E') o ≡ option_map (seen E) o
       by None e not_m = refl
       by (Some p) e not_m = ap (λ o. Some (held_of o)) (stays j p not_i not_m e)
+
+  pub removed_change : IsSeated P' E' × ((j : ℕ) → j ≢ i → option_map (seen E') (P' j) ≡ option_map (seen E) (P j))
+  removed_change = (seated_removed, removed_seen)

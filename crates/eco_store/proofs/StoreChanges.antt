@@ -1,55 +1,47 @@
 -- The store after an entity's row went, and the entity that took its place was placed anew.
-use Rattle.std.proofs.Common.{◌≡◌, ◌≢◌, ℕ, ◌<◌, ◌-◌, Bool, true, false, true≢false, cond, Bor, Ordering, Less, Equal, Greater, is_eq, is_lt, List, [], ◌∷◌, map}
-use Rattle.std.proofs.Common.{length, slice_get, set, ◌+◌, nat_lt, if◌then◌else◌, Option, Some, None, option_map, option_and_then, unwrap_or, is_some, IsSome}
-use Rattle.std.proofs.Common.{IfSome, IsTrue, refl, sym, ap, subst, ◌∙◌, inl, inr}
+use Rattle.std.proofs.Common.{◌≡◌, ◌≢◌, ℕ, ◌<◌, ◌-◌, ◌+◌, ◌==◌, Bool, true, false, true≢false, cond, Bor, List, map, length, get_or, set, slice_get, nat_lt}
+use Rattle.std.proofs.Common.{if◌then◌else◌, Option, Some, None, option_map, option_and_then, is_some, IsSome, IfSome, IsTrue, refl, sym, ap, subst, ◌∙◌}
+use Rattle.std.proofs.Common.{arith, inl, inr}
+use Rattle.std.specs.List.{swap_remove}
+use Rattle.std.specs.Option.{option_copied}
 use Rattle.std.proofs.lemmas.Bool.{cases_eq}
+use Rattle.std.proofs.lemmas.Option.{slice_get-get_or, slice_get-map, slice_get_within}
 use Rattle.eco_ids.specs.declared.entity.Entity.{Entity}
 use Rattle.eco_ids.specs.declared.id.Id.{Id}
-use Rattle.eco_ids.specs.declared.value.Value.{Value}
 use Rattle.eco_ids.specs.Indices.{changed, change_kept, with_record, Indexed, IndexState, Retired, Free, Living, record_of, with_death, raised, is_alive}
 use Rattle.eco_ids.specs.Indices.{map_state}
+use Rattle.eco_ids.specs.World.{Record}
+use Rattle.eco_ids.proofs.Lists.{not_equal, slice_get-set_there, slice_get-set_other}
+use Rattle.eco_ids.proofs.States.{living_at, record_at}
 use Rattle.eco_tables.specs.Column.{retyped}
-use Rattle.eco_tables.specs.Table.{TableState, TableRow}
+use Rattle.eco_tables.specs.Table.{TableState, TableRow, entities_of, retyped_row}
 use Rattle.eco_tables.specs.Tables.{table_in, row_in, no_row}
-use Rattle.std.specs.List.{list_all}
-use Rattle.std.specs.Option.{option_copied}
-use Rattle.std.specs.Ordering.{ordering_reverse}
-use Rattle.std.specs.FinMap.Entries.{find}
-use Rattle.std.proofs.lemmas.Option.{slice_get-get_or}
-use Rattle.eco_ids.specs.Order.{id_cmp, id_eq, is_ascending}
-use Rattle.eco_ids.specs.World.{Record, zeros}
-use Rattle.eco_ids.proofs.Ascending.{first, second, less}
-use Rattle.eco_ids.proofs.IdOrder.{id_cmp_total}
-use Rattle.eco_tables.specs.Column.{value_in}
-use Rattle.eco_tables.specs.Table.{HasIds}
-use Rattle.eco_index.specs.TypeMap.{same_ids}
-use Rattle.eco_archetypes.specs.Archetypes.{type_at, KeepsTypes, row_at, SameRows}
-use Rattle.eco_ids.proofs.SameIds.{same_ids-Decides}
+use Rattle.eco_archetypes.specs.Archetypes.{row_at, SameRows}
 use Rattle.eco_entities.specs.declared.place.Place.{Place}
 use Rattle.eco_entities.specs.Registration.{Registration, placed, own_place}
-use Rattle.eco_store.specs.Layout.{rows_in, TakesRow, MovesRow}
+use Rattle.eco_store.specs.Layout.{rows_in, MovesRow}
 use Rattle.eco_store.specs.Placing.{fixed}
-use Rattle.eco_store.specs.Seats.{IsSeated, seat_of, seen, held_of}
-use Rattle.eco_store.specs.Store.{record_for, held_at, read, seat_in, seat_at, seat_of_place, HasPlace, IsStore, with_type, record_ids, type_in_store}
-use Rattle.eco_store.proofs.SeatChanges.{one_some}
-use Rattle.std.proofs.lemmas.Option.{slice_get-map}
-use Rattle.eco_store.proofs.Moves.{row_there, mover, take_seated, take_others, move_seated, move_others, move_new_held}
-use Rattle.eco_ids.proofs.Lists.{slice_get-set_there, slice_get-set_other, set_own}
-use Rattle.eco_ids.proofs.States.{living_at, record_at}
-use Rattle.eco_store.proofs.Views.{ext_slice_get, bare, bare_at, seen_alike}
+use Rattle.eco_store.specs.Seats.{Seat, IsSeated, seated_entity, seat_of, seen, held_of}
+use Rattle.eco_store.specs.Store.{record_for, held_at, read, seat_in, seat_at, seat_of_place, HasPlace, IsStore, with_type}
+use Rattle.eco_store.proofs.RowChanges.{between_rows, moves_removes, moves_pushes, rows_removed, swap_at_row, swap_at_last, is_equal}
+use Rattle.eco_store.proofs.SeatChanges.{Pushed, no_some, one_some, pushed_change, removed_change}
+use Rattle.eco_store.proofs.Views.{alike_set, at_each, bare, bare_at, changed_at, raised_either, read_at, seen_alike}
 
 -- what a seat says of its index
-pub living_from_seat : (o : Option (IndexState Registration)) (e : Entity) (n k : ℕ) → seat_in o ≡ Some (seat_of e n k)
-    → (r : Registration) × (o ≡ Some (Living e.generation r))
-living_from_seat None e n k h = absurd (cc)
-living_from_seat (Some Retired) e n k h = absurd (cc)
-living_from_seat (Some (Free g)) e n k h = absurd (cc)
-living_from_seat (Some (Living g r)) e n k h = (r, by r.place h)
+pub place_from_seat : (o : Option (IndexState Registration)) (e : Entity) (n k : ℕ) → seat_in o ≡ Some (seat_of e n k)
+    → (r : Registration) × (o ≡ Some (Living e.generation r)) × (r.place ≡ Some (record { table = n; row = k }))
+place_from_seat None e n k h = absurd (cc)
+place_from_seat (Some Retired) e n k h = absurd (cc)
+place_from_seat (Some (Free g)) e n k h = absurd (cc)
+place_from_seat (Some (Living g r)) e n k h = by r.place refl h
   where
-    by : (p : Option Place) → option_map (seat_of_place g) p ≡ Some (seat_of e n k) →
-        ◌≡◌ {A = Option (IndexState Registration)} (Some (Living g r)) (Some (Living e.generation r))
-    by None h = absurd (cc)
-    by (Some p) h = let same : seat_of_place g p ≡ seat_of e n k = cc in λ t. Some (Living (same t).generation r)
+    by : (p : Option Place) → r.place ≡ p → option_map (seat_of_place g) p ≡ Some (seat_of e n k)
+        → (x : Registration) × (◌≡◌ {A = Option (IndexState Registration)} (Some (Living g r)) (Some (Living e.generation x)))
+        × (x.place ≡ Some (record { table = n; row = k }))
+    by None is h = absurd (cc)
+    by (Some p) is h =
+        let same : seat_of_place g p ≡ seat_of e n k = cc in
+        (r, (λ t. Some (Living (same t).generation r)), is ∙ (λ t. Some (record { table = (same t).slot; row = (same t).row })))
 
 -- the record of an entity that has a place
 pub placed_record : (w : Indexed Registration) (e : Entity) (p : Place) → own_place w e ≡ Some p →
@@ -65,205 +57,16 @@ seat_there w e p own =
     let r = placed_record w e p own in
     ap seat_in (living_at w e r.0 r.1) ∙ ap (option_map (seat_of_place e.generation)) r.2
 
--- ---- the entity that came to the place
-
-pub fixed_other : (w : Indexed Registration) (moved : Option Entity) (p : Place) (j : ℕ) → ((m : Entity) → moved ≡ Some m → j ≢ m.index)
-    → slice_get (fixed w moved p).indices j ≡ slice_get w.indices j
-fixed_other w None p j apart = refl
-fixed_other w (Some m) p j apart = by (record_of w m)
-  where
-    by : (o : Option Registration) → slice_get (change_kept w m (placed p) o).indices j ≡ slice_get w.indices j
-    by None = refl
-    by (Some r) = slice_get-set_other w.indices m.index j (Living m.generation (placed p r)) (apart m refl)
-
-pub fixed_here : (w : Indexed Registration) (m : Entity) (p : Place) (r : Registration) → record_of w m ≡ Some r
-    → slice_get (fixed w (Some m) p).indices m.index ≡ Some (Living m.generation (placed p r))
-fixed_here w m p r h =
-    ap (λ o. slice_get (change_kept w m (placed p) o).indices m.index) h
-    ∙ slice_get-set_there w.indices m.index (Living m.generation (placed p r)) (Living m.generation r) (living_at w m r h)
-
-pub fixed_limit : (w : Indexed Registration) (moved : Option Entity) (p : Place) → (fixed w moved p).limit ≡ w.limit
-fixed_limit w None p = refl
-fixed_limit w (Some m) p = by (record_of w m)
-  where
-    by : (o : Option Registration) → (change_kept w m (placed p) o).limit ≡ w.limit
-    by None = refl
-    by (Some r) = refl
-
-pub fixed_bare : (w : Indexed Registration) (moved : Option Entity) (p : Place) (j : ℕ) → bare_at (fixed w moved p) j ≡ bare_at w j
-fixed_bare w None p j = refl
-fixed_bare w (Some m) p j = by (record_of w m) refl
-  where
-    by : (o : Option Registration) → record_of w m ≡ o → bare_at (change_kept w m (placed p) o) j ≡ bare_at w j
-    by None h = refl
-    by (Some r) h =
-        elim (cases_eq j m.index) [
-          | inl here ↦
-              ap (λ k. option_map (map_state bare) (slice_get (set w.indices m.index (Living m.generation (placed p r))) k)) here
-              ∙ ap (option_map (map_state bare))
-              (slice_get-set_there w.indices m.index (Living m.generation (placed p r)) (Living m.generation r) (living_at w m r h))
-              ∙ sym (ap (λ k. bare_at w k) here ∙ ap (option_map (map_state bare)) (living_at w m r h))
-          | inr other ↦ ap (option_map (map_state bare)) (slice_get-set_other w.indices m.index j (Living m.generation (placed p r)) other)
-        ]
-
-pub fixed_placed : (w : Indexed Registration) (moved : Option Entity) (p : Place) (j : ℕ) → HasPlace (slice_get w.indices j) →
-    HasPlace (slice_get (fixed w moved p).indices j)
-fixed_placed w None p j had = had
-fixed_placed w (Some m) p j had = by (record_of w m) refl
-  where
-    by : (o : Option Registration) → record_of w m ≡ o → HasPlace (slice_get (change_kept w m (placed p) o).indices j)
-    by None h = had
-    by (Some r) h =
-        elim (cases_eq j m.index) [
-          | inl here ↦
-              let now : slice_get (set w.indices m.index (Living m.generation (placed p r))) j ≡ Some (Living m.generation (placed p r)) =
-              ap (slice_get (set w.indices m.index (Living m.generation (placed p r)))) here
-              ∙ slice_get-set_there w.indices m.index (Living m.generation (placed p r)) (Living m.generation r) (living_at w m r h) in
-              subst HasPlace (sym now) refl
-          | inr other ↦ subst HasPlace (sym (slice_get-set_other w.indices m.index j (Living m.generation (placed p r)) other)) had
-        ]
-
 -- the same rows, as one function
 rows_as : (s s' : List (Option TableState)) → SameRows s s' → row_at s' ≡ row_at s
 rows_as s s' same = λ t n k. same n k t
-
--- ---- an entity's own state changes after that
-module _ (w : Indexed Registration) (e : Entity) (p : Place) (moved : Option Entity) (r : Registration) (last : ℕ) (x : IndexState Registration)
-    (was : slice_get w.indices e.index ≡ Some (Living e.generation r))
-    (movers : (m : Entity) → moved ≡ Some m → (seat_at w m.index ≡ Some (seat_of m p.table last)) × (m.index ≢ e.index)) where
-  abbrev pub after : Indexed Registration
-  after = record (fixed w moved p) { indices = set (fixed w moved p).indices e.index x }
-
-  pub fixed_e : slice_get (fixed w moved p).indices e.index ≡ Some (Living e.generation r)
-  fixed_e = fixed_other w moved p e.index (λ m is h. (movers m is).1 (sym h)) ∙ was
-
-  pub after_e : slice_get after.indices e.index ≡ Some x
-  after_e = slice_get-set_there (fixed w moved p).indices e.index x (Living e.generation r) fixed_e
-
-  after_not_e : (j : ℕ) → j ≢ e.index → slice_get after.indices j ≡ slice_get (fixed w moved p).indices j
-  after_not_e j other = slice_get-set_other (fixed w moved p).indices e.index j x other
-
-  pub after_m : (m : Entity) → moved ≡ Some m → seat_at after m.index ≡ Some (seat_of m p.table p.row)
-  after_m m is =
-      let found = living_from_seat (slice_get w.indices m.index) m p.table last (movers m is).0 in
-      let rec = record_at w m found.0 found.1 in
-      ap seat_in (after_not_e m.index (movers m is).1 ∙ ap (λ o. slice_get (fixed w o p).indices m.index) is ∙ fixed_here w m p found.0 rec)
-
-  pub after_others : (j : ℕ) → j ≢ e.index → ((m : Entity) → moved ≡ Some m → j ≢ m.index) → seat_at after j ≡ seat_at w j
-  after_others j not_e not_m = ap seat_in (after_not_e j not_e ∙ fixed_other w moved p j not_m)
-
-  pub after_bare : (j : ℕ) → j ≢ e.index → bare_at after j ≡ bare_at w j
-  after_bare j not_e = ap (option_map (map_state bare)) (after_not_e j not_e) ∙ fixed_bare w moved p j
-
-  pub after_placed : ((j : ℕ) → HasPlace (slice_get w.indices j)) → HasPlace (Some x) → (j : ℕ) → HasPlace (slice_get after.indices j)
-  after_placed had has j =
-      elim (cases_eq j e.index) [
-        | inl here ↦ subst HasPlace (sym (ap (slice_get after.indices) here ∙ after_e)) has
-        | inr other ↦ subst HasPlace (sym (after_not_e j other)) (fixed_placed w moved p j (had j))
-      ]
-
-  -- all is seen as before but what is seen of the entity
-  pub after_read : (s s' : List (Option TableState)) (y : IndexState Record)
-      → ((j : ℕ) → j ≢ e.index → option_map (seen (row_at s')) (seat_at after j) ≡ option_map (seen (row_at s)) (seat_at w j))
-      → option_map (map_state (record_for (row_at s'))) (Some x) ≡ Some y
-      → read after s' ≡ record (read w s) { indices = set (read w s).indices e.index y }
-  after_read s s' y others it =
-      let old : slice_get (read w s).indices e.index ≡ Some (map_state (record_for (row_at s)) (Living e.generation r)) =
-      slice_get-map (map_state (record_for (row_at s))) w.indices e.index ∙ ap (option_map (map_state (record_for (row_at s)))) was in
-      let indices : (read after s').indices ≡ set (read w s).indices e.index y =
-      ext_slice_get (read after s').indices (set (read w s).indices e.index y)
-      (λ j. elim (cases_eq j e.index) [
-        | inl here ↦
-            ap (slice_get (read after s').indices) here
-            ∙ slice_get-map (map_state (record_for (row_at s'))) after.indices e.index ∙ ap (option_map (map_state (record_for (row_at s')))) after_e ∙ it
-            ∙ sym (ap (slice_get (set (read w s).indices e.index y)) here ∙ slice_get-set_there (read w s).indices e.index y _ old)
-        | inr other ↦
-            seen_alike w after s s' j (after_bare j other) (others j other)
-            ∙ sym (slice_get-set_other (read w s).indices e.index j y other)
-      ]) in
-      λ t. record { limit = fixed_limit w moved p t; indices = indices t }
-
--- ---- an entity taken out
-module _ (w : Indexed Registration) (s s1 : List (Option TableState)) (e : Entity) (p : Place) (moved : Option Entity)
-    (store : IsStore w s) (own : own_place w e ≡ Some p) (takes : TakesRow (rows_in s) (rows_in s1) p moved) where
-  out_record : (r : Registration) × (record_of w e ≡ Some r) × (r.place ≡ Some p)
-  out_record = placed_record w e p own
-
-  out_was : slice_get w.indices e.index ≡ Some (Living e.generation out_record.0)
-  out_was = living_at w e out_record.0 out_record.1
-
-  out_movers : (m : Entity) → moved ≡ Some m → (seat_at w m.index ≡ Some (seat_of m p.table (length (rows_in s p.table) - 1))) × (m.index ≢ e.index)
-  out_movers m is =
-      mover (seat_at w) s s1 e.index (seat_of e p.table p.row) moved store.seated (seat_there w e p own)
-      takes.rows.changed takes.filled m is
-
-  pub out_movers_live : IfSome moved (λ m. IsTrue (is_alive w m))
-  out_movers_live = by moved refl
-    where
-      by : (o : Option Entity) → moved ≡ o → IfSome o (λ m. IsTrue (is_alive w m))
-      by None is = tt
-      by (Some m) is =
-          let found = living_from_seat (slice_get w.indices m.index) m p.table _ (out_movers m is).0 in
-          ap is_some (record_at w m found.0 found.1)
-
-  pub out_alive : IsTrue (is_alive (fixed w moved p) e)
-  out_alive =
-      ap is_some (record_at (fixed w moved p) e out_record.0 (fixed_e w e p moved out_record.0 _ (raised e.generation) out_was out_movers))
-
-  abbrev out_after : Indexed Registration
-  out_after = with_death (fixed w moved p) e
-
-  raised_place : (g : ℕ) → HasPlace (Some (raised g))
-  raised_place g = by (nat_lt g 65535)
-    where
-      by : (b : Bool) → HasPlace (Some (if b then Free (g + 1) else Retired))
-      by true = tt
-      by false = tt
-
-  raised_kept : (E : ℕ → ℕ → Option TableRow) (g : ℕ) → map_state (record_for E) (raised g) ≡ raised g
-  raised_kept E g = by (nat_lt g 65535)
-    where
-      by : (b : Bool) → map_state (record_for E) (if b then Free (g + 1) else Retired) ≡ (if b then Free (g + 1) else Retired)
-      by true = refl
-      by false = refl
-
-  -- the index's new state has no seat
-  out_gone : seat_at out_after e.index ≡ None
-  out_gone = ap seat_in (after_e w e p moved out_record.0 _ (raised e.generation) out_was out_movers) ∙ none_lives e.generation
-    where
-      none_lives : (g : ℕ) → seat_in (Some (raised g)) ≡ None
-      none_lives g = by (nat_lt g 65535)
-        where
-          by : (b : Bool) → seat_in (Some (if b then Free (g + 1) else Retired)) ≡ None
-          by true = refl
-          by false = refl
-
-  out_seated : IsSeated (seat_at out_after) (row_at s1)
-  out_seated =
-      take_seated (seat_at w) (seat_at out_after) s s1 e.index (seat_of e p.table p.row) moved store.seated (seat_there w e p own) takes out_gone
-      (after_m w e p moved out_record.0 _ (raised e.generation) out_was out_movers)
-      (after_others w e p moved out_record.0 _ (raised e.generation) out_was out_movers)
-
-  pub out_store : IsStore out_after s1
-  out_store = record {
-    seated = out_seated;
-    placed = after_placed w e p moved out_record.0 _ (raised e.generation) out_was out_movers store.placed (raised_place e.generation);
-  }
-
-  pub out_read : read out_after s1 ≡ with_death (read w s) e
-  out_read =
-      after_read w e p moved out_record.0 _ (raised e.generation) out_was out_movers s s1 (raised e.generation)
-      (take_others (seat_at w) (seat_at out_after) s s1 e.index (seat_of e p.table p.row) moved store.seated (seat_there w e p own) takes out_gone
-      (after_m w e p moved out_record.0 _ (raised e.generation) out_was out_movers)
-      (after_others w e p moved out_record.0 _ (raised e.generation) out_was out_movers))
-      (ap Some (raised_kept (row_at s1) e.generation))
 
 -- what a store shows of a living entity
 pub read_record : (w : Indexed Registration) (s : List (Option TableState)) (e : Entity) (r : Registration) → record_of w e ≡ Some r
     → record_of (read w s) e ≡ Some (record_for (row_at s) r)
 read_record w s e r h =
     record_at (read w s) e (record_for (row_at s) r)
-    (slice_get-map (map_state (record_for (row_at s))) w.indices e.index ∙ ap (option_map (map_state (record_for (row_at s)))) (living_at w e r h))
+    (read_at w s e.index _ (living_at w e r h))
 
 pub same_store : (w : Indexed Registration) (s s' : List (Option TableState)) → SameRows s s' → IsStore w s → IsStore w s'
 same_store w s s' same store = record {
@@ -277,118 +80,249 @@ same_read w s s' same = ap (λ E. record { limit = w.limit; indices = map (map_s
 -- an entity's row is there
 pub row_within : (w : Indexed Registration) (s : List (Option TableState)) (e : Entity) (p : Place) → IsStore w s → own_place w e ≡ Some p
     → p.row < length (table_in s p.table).rows
-row_within w s e p store own = row_there (seat_at w) s e.index (seat_of e p.table p.row) store.seated (seat_there w e p own)
+row_within w s e p store own =
+    let old = store.seated.there e.index (seat_of e p.table p.row) (seat_there w e p own) in slice_get_within (rows_in s p.table) p.row old.0 old.1
 
--- ---- an entity moved to another table
-module _ (w : Indexed Registration) (s s1 : List (Option TableState)) (e : Entity) (p to : Place) (ids : List Id) (moved : Option Entity)
-    (store : IsStore w s) (own : own_place w e ≡ Some p) (moves : MovesRow (rows_in s) (rows_in s1) p to ids moved) where
-  to_record : (r : Registration) × (record_of w e ≡ Some r) × (r.place ≡ Some p)
-  to_record = placed_record w e p own
+-- ---- the entity that came to the place
 
-  to_was : slice_get w.indices e.index ≡ Some (Living e.generation to_record.0)
-  to_was = living_at w e to_record.0 to_record.1
+fixed_other : (w : Indexed Registration) (moved : Option Entity) (p : Place) (j : ℕ) → ((m : Entity) → moved ≡ Some m → j ≢ m.index)
+    → slice_get (fixed w moved p).indices j ≡ slice_get w.indices j
+fixed_other w None p j apart = refl
+fixed_other w (Some m) p j apart = by (record_of w m)
+  where
+    by : (o : Option Registration) → slice_get (change_kept w m (placed p) o).indices j ≡ slice_get w.indices j
+    by None = refl
+    by (Some r) = slice_get-set_other w.indices m.index j (Living m.generation (placed p r)) (apart m refl)
 
-  to_movers : (m : Entity) → moved ≡ Some m → (seat_at w m.index ≡ Some (seat_of m p.table (length (rows_in s p.table) - 1))) × (m.index ≢ e.index)
-  to_movers m is =
-      mover (seat_at w) s s1 e.index (seat_of e p.table p.row) moved store.seated (seat_there w e p own) moves.source moves.filled m is
+fixed_here : (w : Indexed Registration) (m : Entity) (p : Place) (r : Registration) → record_of w m ≡ Some r
+    → slice_get (fixed w (Some m) p).indices m.index ≡ Some (Living m.generation (placed p r))
+fixed_here w m p r h =
+    ap (λ o. slice_get (change_kept w m (placed p) o).indices m.index) h
+    ∙ slice_get-set_there w.indices m.index (Living m.generation (placed p r)) (Living m.generation r) (living_at w m r h)
 
-  pub to_movers_live : IfSome moved (λ m. IsTrue (is_alive w m))
-  to_movers_live = by moved refl
+fixed_limit : (w : Indexed Registration) (moved : Option Entity) (p : Place) → (fixed w moved p).limit ≡ w.limit
+fixed_limit w None p = refl
+fixed_limit w (Some m) p = by (record_of w m)
+  where
+    by : (o : Option Registration) → (change_kept w m (placed p) o).limit ≡ w.limit
+    by None = refl
+    by (Some r) = refl
+
+fixed_bare : (w : Indexed Registration) (moved : Option Entity) (p : Place) (j : ℕ) → bare_at (fixed w moved p) j ≡ bare_at w j
+fixed_bare w None p j = refl
+fixed_bare w (Some m) p j =
+    changed_at w m (placed p) (λ a b. option_map (map_state bare) b ≡ option_map (map_state bare) a) (λ o. refl) (λ g r. refl) j
+
+fixed_placed : (w : Indexed Registration) (moved : Option Entity) (p : Place) (j : ℕ) → HasPlace (slice_get w.indices j) →
+    HasPlace (slice_get (fixed w moved p).indices j)
+fixed_placed w None p j had = had
+fixed_placed w (Some m) p j had = changed_at w m (placed p) (λ a b. HasPlace a → HasPlace b) (λ o h. h) (λ g r h. refl) j had
+
+raised_kept : (E : ℕ → ℕ → Option TableRow) (g : ℕ) → map_state (record_for E) (raised g) ≡ raised g
+raised_kept E g = by (nat_lt g 65535)
+  where
+    by : (b : Bool) → map_state (record_for E) (if b then Free (g + 1) else Retired) ≡ (if b then Free (g + 1) else Retired)
+    by true = refl
+    by false = refl
+
+-- ---- an entity's row goes, and whoever takes its place is placed there
+module _ (w : Indexed Registration) (s s1 : List (Option TableState)) (e : Entity) (p : Place) (moved : Option Entity)
+    (store : IsStore w s) (own : own_place w e ≡ Some p) (source : rows_in s1 p.table ≡ swap_remove (rows_in s p.table) p.row no_row)
+    (filled : moved ≡ slice_get (entities_of (rows_in s1 p.table)) p.row) where
+  abbrev rows : List TableRow
+  rows = rows_in s p.table
+
+  abbrev last : ℕ
+  last = length rows - 1
+
+  abbrev final : TableRow
+  final = get_or rows last no_row
+
+  inside : p.row < length rows
+  inside = row_within w s e p store own
+
+  own_seat : seat_at w e.index ≡ Some (seat_of e p.table p.row)
+  own_seat = seat_there w e p own
+
+  final_row : row_at s p.table last ≡ Some final
+  final_row = slice_get-get_or rows last no_row (let h = inside in omega arith)
+
+  final_seat : seat_at w final.entity.index ≡ Some (seat_of final.entity p.table last)
+  final_seat = store.seated.back p.table last final final_row
+
+  moved_from : moved ≡ option_map (λ (r : TableRow). r.entity) (slice_get (swap_remove rows p.row no_row) p.row)
+  moved_from =
+      filled ∙ ap (λ xs. slice_get (entities_of xs) p.row) source ∙ slice_get-map (λ (r : TableRow). r.entity) (swap_remove rows p.row no_row) p.row
+
+  moved_some : last ≢ p.row → moved ≡ Some final.entity
+  moved_some d = moved_from ∙ ap (option_map (λ (r : TableRow). r.entity)) (swap_at_row rows p.row inside d ∙ final_row)
+
+  moved_none : last ≡ p.row → moved ≡ None
+  moved_none is = moved_from ∙ ap (option_map (λ (r : TableRow). r.entity)) (sym (ap (slice_get (swap_remove rows p.row no_row)) is)
+      ∙ swap_at_last rows p.row inside)
+
+  -- who takes the place stood in the last row, and is another
+  movers : (m : Entity) → moved ≡ Some m → (final.entity ≡ m) × (m.index ≢ e.index)
+  movers m is =
+      elim (cases_eq last p.row) [
+        | inl same ↦ absurd (no_some moved m (moved_none same) is)
+        | inr other ↦
+            let who : final.entity ≡ m = one_some moved final.entity m (moved_some other) is in
+            let stood = subst (λ (x : Entity). seat_at w x.index ≡ Some (seat_of x p.table last)) who final_seat in
+            (who, λ h. other (ap (λ (q : Seat). q.row) (one_some (seat_at w e.index) _ _ (ap (seat_at w) (sym h) ∙ stood) own_seat)))
+      ]
+
+  final_record : (r : Registration) × (record_of w final.entity ≡ Some r)
+  final_record =
+      let found = place_from_seat (slice_get w.indices final.entity.index) final.entity p.table last final_seat in
+      (found.0, record_at w final.entity found.0 found.1)
+
+  pub movers_live : IfSome moved (λ m. IsTrue (is_alive w m))
+  movers_live = by moved refl
     where
       by : (o : Option Entity) → moved ≡ o → IfSome o (λ m. IsTrue (is_alive w m))
       by None is = tt
-      by (Some m) is =
-          let found = living_from_seat (slice_get w.indices m.index) m p.table _ (to_movers m is).0 in
-          ap is_some (record_at w m found.0 found.1)
+      by (Some m) is = subst (λ x. IsTrue (is_alive w x)) (movers m is).0 (ap is_some final_record.1)
 
-  abbrev new_state : IndexState Registration
-  new_state = Living e.generation (placed to to_record.0)
+  abbrev now : Indexed Registration
+  now = fixed w moved p
 
-  to_fixed : record_of (fixed w moved p) e ≡ Some to_record.0
-  to_fixed = record_at (fixed w moved p) e to_record.0 (fixed_e w e p moved to_record.0 _ new_state to_was to_movers)
+  own_record : (r : Registration) × (record_of w e ≡ Some r) × (r.place ≡ Some p)
+  own_record = placed_record w e p own
 
-  pub to_alive : IsTrue (is_alive (fixed w moved p) e)
-  to_alive = ap is_some to_fixed
+  still_there : slice_get now.indices e.index ≡ Some (Living e.generation own_record.0)
+  still_there = fixed_other w moved p e.index (λ m is h. (movers m is).1 (sym h)) ∙ living_at w e own_record.0 own_record.1
 
-  abbrev to_after : Indexed Registration
-  to_after = after w e p moved to_record.0 _ new_state to_was to_movers
+  still_recorded : record_of now e ≡ Some own_record.0
+  still_recorded = record_at now e own_record.0 still_there
 
-  to_is : changed (fixed w moved p) e (placed to) ≡ to_after
-  to_is = ap (change_kept (fixed w moved p) e (placed to)) to_fixed
+  pub still_lives : IsTrue (is_alive now e)
+  still_lives = ap is_some still_recorded
 
-  to_now : seat_at to_after e.index ≡ Some (seat_of e to.table to.row)
-  to_now = ap seat_in (after_e w e p moved to_record.0 _ new_state to_was to_movers)
+  -- then its own state changes
+  module _ (x : IndexState Registration) where
+    abbrev after : Indexed Registration
+    after = record now { indices = set now.indices e.index x }
 
-  to_seated : IsSeated (seat_at to_after) (row_at s1)
-  to_seated =
-      move_seated (seat_at w) (seat_at to_after) s s1 e.index to ids (seat_of e p.table p.row) moved store.seated (seat_there w e p own) moves to_now
-      (after_m w e p moved to_record.0 _ new_state to_was to_movers) (after_others w e p moved to_record.0 _ new_state to_was to_movers)
+    after_own : slice_get after.indices e.index ≡ Some x
+    after_own = slice_get-set_there now.indices e.index x (Living e.generation own_record.0) still_there
 
-  to_others : (j : ℕ) → j ≢ e.index → option_map (seen (row_at s1)) (seat_at to_after j) ≡ option_map (seen (row_at s)) (seat_at w j)
-  to_others =
-      move_others (seat_at w) (seat_at to_after) s s1 e.index to ids (seat_of e p.table p.row) moved store.seated (seat_there w e p own) moves to_now
-      (after_m w e p moved to_record.0 _ new_state to_was to_movers) (after_others w e p moved to_record.0 _ new_state to_was to_movers)
+    after_other : (j : ℕ) → j ≢ e.index → slice_get after.indices j ≡ slice_get now.indices j
+    after_other j other = slice_get-set_other now.indices e.index j x other
 
-  to_held : held_of (row_at s1 to.table to.row) ≡ retyped ids (held_of (row_at s p.table p.row))
-  to_held =
-      move_new_held (seat_at w) (seat_at to_after) s s1 e.index to ids (seat_of e p.table p.row) moved store.seated (seat_there w e p own) moves to_now
-      (after_m w e p moved to_record.0 _ new_state to_was to_movers) (after_others w e p moved to_record.0 _ new_state to_was to_movers)
+    final_fixed : last ≢ p.row → seat_at after final.entity.index ≡ Some (seat_of final.entity p.table p.row)
+    final_fixed d =
+        ap seat_in (after_other final.entity.index (movers final.entity (moved_some d)).1
+        ∙ ap (λ o. slice_get (fixed w o p).indices final.entity.index) (moved_some d) ∙ fixed_here w final.entity p final_record.0 final_record.1)
 
-  pub to_store : IsStore (changed (fixed w moved p) e (placed to)) s1
-  to_store = subst (λ v. IsStore v s1) (sym to_is) (record {
-    seated = to_seated;
-    placed = after_placed w e p moved to_record.0 _ new_state to_was to_movers store.placed refl;
-  })
+    others_kept : (j : ℕ) → j ≢ e.index → j ≢ final.entity.index → seat_at after j ≡ seat_at w j
+    others_kept j not_e other =
+        ap seat_in (after_other j not_e
+        ∙ fixed_other w moved p j (λ m is h. other (h ∙ sym (ap (λ (y : Entity). y.index) (movers m is).0))))
 
-  abbrev new_kept : IndexState Record
-  new_kept = Living e.generation (record { name = to_record.0.name; arity = to_record.0.arity; held = retyped ids (held_of (row_at s p.table p.row)) })
+    after_placed : HasPlace (Some x) → (j : ℕ) → HasPlace (slice_get after.indices j)
+    after_placed has =
+        at_each e.index (λ j. HasPlace (slice_get after.indices j)) (subst HasPlace (sym after_own) has)
+        (λ j other. subst HasPlace (sym (after_other j other)) (fixed_placed w moved p j (store.placed j)))
 
-  pub to_read : read (changed (fixed w moved p) e (placed to)) s1 ≡ changed (read w s) e (with_type ids)
-  to_read =
-      let old : record_of (read w s) e ≡ Some (record_for (row_at s) to_record.0) = read_record w s e to_record.0 to_record.1 in
-      let held : held_at (row_at s) to_record.0.place ≡ held_of (row_at s p.table p.row) = ap (held_at (row_at s)) to_record.2 in
-      ap (λ v. read v s1) to_is
-      ∙ after_read w e p moved to_record.0 _ new_state to_was to_movers s s1 new_kept to_others
-      (λ t. Some (Living e.generation (record { name = to_record.0.name; arity = to_record.0.arity; held = to_held t })))
-      ∙ sym (ap (change_kept (read w s) e (with_type ids)) old
-      ∙ (λ t. with_record (read w s) e (record { name = to_record.0.name; arity = to_record.0.arity; held = retyped ids (held t) })))
+    -- all is seen as before but what is seen of the entity
+    after_read : (y : IndexState Record)
+        → ((j : ℕ) → j ≢ e.index → option_map (seen (row_at s1)) (seat_at after j) ≡ option_map (seen (row_at s)) (seat_at w j))
+        → option_map (map_state (record_for (row_at s1))) (Some x) ≡ Some y → read after s1 ≡ record (read w s) { indices = set (read w s).indices e.index y }
+    after_read y others it =
+        let was = read_at w s e.index _ (living_at w e own_record.0 own_record.1) in
+        let indices = alike_set (read after s1).indices (read w s).indices e.index y _ was (read_at after s1 e.index _ after_own ∙ it)
+        (λ j other. seen_alike w after s s1 j (ap (option_map (map_state bare)) (after_other j other) ∙ fixed_bare w moved p j) (others j other)) in
+        λ t. record { limit = fixed_limit w moved p t; indices = indices t }
 
--- ---- an entity that has the type already
+  -- it is taken out
+  module _ (others : (n : ℕ) → n ≢ p.table → rows_in s1 n ≡ rows_in s n) where
+    abbrev gone : IndexState Registration
+    gone = raised e.generation
+
+    out_change : IsSeated (seat_at (after gone)) (row_at s1)
+        × ((j : ℕ) → j ≢ e.index → option_map (seen (row_at s1)) (seat_at (after gone) j) ≡ option_map (seen (row_at s)) (seat_at w j))
+    out_change =
+        removed_change (seat_at w) (seat_at (after gone)) (row_at s) (row_at s1) e.index e.generation p.table p.row last final store.seated
+        (rows_removed s (row_at s1) p.table p.row inside (λ k. ap (λ xs. slice_get xs k) source) (λ n k o. ap (λ xs. slice_get xs k) (others n o)))
+        own_seat final_row (ap seat_in (after_own gone) ∙ raised_either e.generation (λ x. seat_in (Some x) ≡ None) (λ h. refl) refl)
+        (final_fixed gone) (others_kept gone)
+
+    pub out_store : IsStore (with_death now e) s1
+    out_store = record { seated = out_change.0; placed = after_placed gone (raised_either e.generation (λ x. HasPlace (Some x)) (λ h. tt) tt) }
+
+    pub out_read : read (with_death now e) s1 ≡ with_death (read w s) e
+    out_read = after_read gone (raised e.generation) out_change.1 (ap Some (raised_kept (row_at s1) e.generation))
+
+  -- or moved to the end of another table
+  module _ (to : Place) (ids : List Id) (moves : MovesRow (rows_in s) (rows_in s1) p to ids moved) where
+    abbrev came : IndexState Registration
+    came = Living e.generation (placed to own_record.0)
+
+    abbrev came_row : TableRow
+    came_row = retyped_row ids (row_in s p.table p.row)
+
+    abbrev P' : ℕ → Option Seat
+    P' = seat_at (after came)
+
+    -- the seats when the row was taken out
+    abbrev P1 : ℕ → Option Seat
+    P1 j = cond (j == e.index) None (P' j)
+
+    gone_between : P1 e.index ≡ None
+    gone_between = ap (λ b. cond b None (P' e.index)) (is_equal e.index e.index refl)
+
+    kept_between : (j : ℕ) → j ≢ e.index → P1 j ≡ P' j
+    kept_between j other = ap (λ b. cond b None (P' j)) (not_equal j e.index other)
+
+    abbrev E1 : ℕ → ℕ → Option TableRow
+    E1 = between_rows s s1 p to ids moved inside moves
+
+    between : IsSeated P1 E1 × ((j : ℕ) → j ≢ e.index → option_map (seen E1) (P1 j) ≡ option_map (seen (row_at s)) (seat_at w j))
+    between =
+        removed_change (seat_at w) P1 (row_at s) E1 e.index e.generation p.table p.row last final store.seated
+        (moves_removes s s1 p to ids moved inside moves) own_seat final_row gone_between
+        (λ d. kept_between final.entity.index (movers final.entity (moved_some d)).1 ∙ final_fixed came d)
+        (λ j a b. kept_between j a ∙ others_kept came j a b)
+
+    old_row : row_at s p.table p.row ≡ Some (row_in s p.table p.row)
+    old_row = slice_get-get_or rows p.row no_row inside
+
+    came_is : came_row.entity ≡ seated_entity e.index (seat_of e to.table to.row)
+    came_is =
+        let old = store.seated.there e.index _ own_seat in
+        ap (λ (r : TableRow). r.entity) (one_some (row_at s p.table p.row) _ _ old_row old.1) ∙ old.2
+
+    pushes : Pushed E1 (row_at s1) to.table to.row came_row
+    pushes = moves_pushes s s1 p to ids moved inside moves
+
+    -- seats and rows name each other again, and what each other entity holds stays
+    to_change : IsSeated P' (row_at s1) × ((j : ℕ) → j ≢ e.index → option_map (seen (row_at s1)) (P' j) ≡ option_map (seen E1) (P1 j))
+    to_change =
+        pushed_change P1 P' E1 (row_at s1) e.index e.generation to.table to.row came_row between.0 pushes gone_between came_is
+        (ap seat_in (after_own came)) (λ j other. sym (kept_between j other))
+
+    to_is : changed now e (placed to) ≡ after came
+    to_is = ap (change_kept now e (placed to)) still_recorded
+
+    pub to_store : IsStore (changed now e (placed to)) s1
+    to_store = subst (λ v. IsStore v s1) (sym to_is) (record { seated = to_change.0; placed = after_placed came refl })
+
+    pub to_read : read (changed now e (placed to)) s1 ≡ changed (read w s) e (with_type ids)
+    to_read =
+        let r = own_record.0 in
+        let new : IndexState Record = Living e.generation (record { name = r.name; arity = r.arity; held = retyped ids (held_of (row_at s p.table p.row)) }) in
+        let held : held_of (row_at s1 to.table to.row) ≡ retyped ids (held_of (row_at s p.table p.row)) =
+        ap held_of pushes.at_end ∙ sym (ap (λ o. retyped ids (held_of o)) old_row) in
+        ap (λ v. read v s1) to_is
+        ∙ after_read came new (λ j other. to_change.1 j other ∙ between.1 j other)
+        (λ t. Some (Living e.generation (record { name = r.name; arity = r.arity; held = held t })))
+        ∙ sym (ap (change_kept (read w s) e (with_type ids)) (read_record w s e r own_record.1)
+        ∙ (λ t. with_record (read w s) e (record { name = r.name; arity = r.arity; held = retyped ids (held_at (row_at s) (own_record.2 t)) })))
 
 pub some_from_copied : {X : Type 0} (o : Option (Bor X)) (s : Option X) → option_copied o ≡ s → IsSome s → IsSome o
 some_from_copied None s h there = absurd (let none : is_some s ≡ false = sym (ap is_some h) in true≢false (sym there ∙ none))
 some_from_copied (Some b) s h there = refl
-
--- ids below an id are not it
-not_alike : (i j : Id) → IsTrue (is_lt (id_cmp i j)) → id_eq j i ≡ false
-not_alike i j h = ap is_eq (id_cmp_total.antisymm j i ∙ ap ordering_reverse (less (id_cmp i j) h))
-
-alike_self : (i : Id) → id_eq i i ≡ true
-alike_self i = by (id_cmp i i) (id_cmp_total.antisymm i i)
-  where
-    by : (r : Ordering) → r ≡ ordering_reverse r → is_eq r ≡ true
-    by Less h = absurd (cc)
-    by Equal h = refl
-    by Greater h = absurd (cc)
-
-map_alike : {X Y : Type 0} (f g : X → Y) (t : X → Bool) → ((x : X) → IsTrue (t x) → f x ≡ g x) → (xs : List X) → IsTrue (list_all t xs) → map f xs ≡ map g xs
-map_alike f g t same [] all = refl
-map_alike f g t same (x ∷ xs) all =
-    let here = same x (first (t x) (list_all t xs) all) in
-    let there = map_alike f g t same xs (second (t x) (list_all t xs) all) in
-    λ i. here i ∷ there i
-
--- what is held stays under its own type
-pub retyped-own : (held : List (Id × Value)) → IsTrue (is_ascending id_cmp (map (λ p. p.0) held)) → retyped (map (λ p. p.0) held) held ≡ held
-retyped-own [] up = refl
-retyped-own (p ∷ rest) up =
-    let here : value_in (p ∷ rest) p.0 ≡ p.1 = ap (λ b. unwrap_or (cond b (Some p.1) (find id_cmp p.0 rest)) zeros) (alike_self p.0) in
-    let there : map (λ i. (i, value_in (p ∷ rest) i)) (map (λ q. q.0) rest) ≡ map (λ i. (i, value_in rest i)) (map (λ q. q.0) rest) =
-    map_alike (λ i. (i, value_in (p ∷ rest) i)) (λ i. (i, value_in rest i)) (λ j. is_lt (id_cmp p.0 j))
-    (λ j below. ap (λ b. (j, unwrap_or (cond b (Some p.1) (find id_cmp j rest)) zeros)) (not_alike p.0 j below)) (map (λ q. q.0) rest)
-    (first _ _ up) in
-    let tail = retyped-own rest (second _ _ up) in
-    λ t. (p.0, here t) ∷ (there ∙ tail) t
 
 -- what an entity holds, its row does
 pub held_there : (w : Indexed Registration) (s : List (Option TableState)) (e : Entity) (p : Place) → IsStore w s → own_place w e ≡ Some p
@@ -396,32 +330,3 @@ pub held_there : (w : Indexed Registration) (s : List (Option TableState)) (e : 
 held_there w s e p store own =
     let r = placed_record w e p own in
     (r.0, r.1, ap (held_at (row_at s)) r.2 ∙ ap held_of (slice_get-get_or (rows_in s p.table) p.row no_row (row_within w s e p store own)))
-
-pub same_type : (w : Indexed Registration) (s : List (Option TableState)) (e : Entity) (p : Place) (ids : List Id) → IsStore w s → own_place w e ≡ Some p
-    → HasIds ids (row_in s p.table p.row) → IsTrue (is_ascending id_cmp ids) → read w s ≡ changed (read w s) e (with_type ids)
-same_type w s e p ids store own is up =
-    let row = row_in s p.table p.row in
-    let r = held_there w s e p store own in
-    let old : record_of (read w s) e ≡ Some (record_for (row_at s) r.0) = read_record w s e r.0 r.1 in
-    let own_held : retyped ids (held_at (row_at s) r.0.place) ≡ held_at (row_at s) r.0.place =
-    (λ t. retyped (sym is t) (r.2 t)) ∙ retyped-own row.held (subst (λ xs. IsTrue (is_ascending id_cmp xs)) (sym is) up) ∙ sym r.2 in
-    let same : set (read w s).indices e.index (Living e.generation (record_for (row_at s) r.0)) ≡ (read w s).indices =
-    set_own (read w s).indices e.index (Living e.generation (record_for (row_at s) r.0)) (living_at (read w s) e (record_for (row_at s) r.0) old) in
-    sym (ap (change_kept (read w s) e (with_type ids)) old
-    ∙ (λ t. with_record (read w s) e (record { name = r.0.name; arity = r.0.arity; held = own_held t }))
-    ∙ (λ t. record { limit = w.limit; indices = same t }))
-
--- an entity's ids are those of its row
-pub ids_there : (w : Indexed Registration) (s : List (Option TableState)) (e : Entity) (p : Place) (ids : List Id) → IsStore w s → own_place w e ≡ Some p
-    → type_in_store (read w s) e ≡ Some ids → HasIds ids (row_in s p.table p.row)
-ids_there w s e p ids store own is =
-    let r = held_there w s e p store own in
-    one_some (type_in_store (read w s) e) _ ids (ap (option_map record_ids) (read_record w s e r.0 r.1) ∙ ap (λ held. Some (map (λ q. q.0) held)) r.2) is
-
--- the type that an entity gets is not in the slot that it has
-pub other_slot : (s s0 : List (Option TableState)) (n to : ℕ) (own ids : List Id) → type_at s n ≡ Some own → KeepsTypes s s0 → type_at s0 to ≡ Some ids
-    → same_ids own ids ≡ false → n ≢ to
-other_slot s s0 n to own ids had keeps typed differ same =
-    let both : own ≡ ids = one_some (type_at s0 to) own ids (ap (type_at s0) (sym same) ∙ keeps n own had) typed in
-    let equal : same_ids own ids ≡ true = (same_ids-Decides own ids).1 both in
-    true≢false (sym equal ∙ differ)

@@ -1,7 +1,6 @@
 -- A table of one row that takes its next type, as a step of that row.
 use Rattle.std.proofs.Common.{◌≡◌, ℕ, List, [], ◌∷◌, map, length, get_or, set, refl, arith, zero, suc, ◌<◌, Option, unwrap_or, ap, ◌∙◌, true≢false}
-use Rattle.std.proofs.Common.{Some, None, is_some, IsTrue, sym, subst, inl, inr}
-use Rattle.std.proofs.lemmas.Bool.{cases_eq}
+use Rattle.std.proofs.Common.{Some, None, is_some, IsTrue, sym, subst}
 use Rattle.std.proofs.lemmas.List.{length-map}
 use Rattle.eco_tables.specs.Table.{TableRow, TableState, retyped_row}
 use Rattle.eco_tables.specs.Tables.{no_table, no_row, slot_of, table_in, rowless, rowless_type}
@@ -9,6 +8,9 @@ use Rattle.eco_ids.specs.declared.id.Id.{Id}
 use Rattle.eco_entities.specs.declared.place.Place.{Place}
 use Rattle.eco_store.specs.Layout.{rows_in, RetypesRow}
 use Rattle.eco_archetypes.specs.Archetypes.{TakesType, RowlessIn, is_rowless, SameSlots}
+use Rattle.std.specs.List.{list_any}
+use Rattle.std.proofs.Common.{nat_eq}
+use Rattle.eco_store.proofs.Views.{at_each}
 
 pub retypes_one : (xs : List TableRow) (row : ℕ) (f : TableRow → TableRow) (d : TableRow) → length xs ≡ 1 → row < length xs
     → map f xs ≡ set xs row (f (get_or xs row d))
@@ -27,12 +29,10 @@ takes_row s s' p ids takes alone within = record {
 -- and no table is without rows that was not
 pub takes_rowless : (s s' : List (Option TableState)) (n : ℕ) (ids : List Id) → TakesType s s' n ids → length (table_in s n).rows ≡ 1
     → (slots : List ℕ) → RowlessIn s slots → RowlessIn s' slots
-takes_rowless s s' n ids takes alone slots none k h = elim (cases_eq k n) [
-  | inl here ↦
-      absurd (has_row (slot_of s' n) (ap length takes.rows ∙ length-map (table_in s n).rows (retyped_row ids) ∙ alone)
-      (subst (λ j. IsTrue (is_rowless s' j)) here h))
-  | inr other ↦ none k (subst (λ o. IsTrue (is_some (rowless_type o))) (takes.others k other) h)
-]
+takes_rowless s s' n ids takes alone slots none =
+    at_each n (λ k. IsTrue (is_rowless s' k) → IsTrue (list_any (nat_eq k) slots))
+    (λ h. absurd (has_row (slot_of s' n) (ap length takes.rows ∙ length-map (table_in s n).rows (retyped_row ids) ∙ alone) h))
+    (λ k other h. none k (subst (λ o. IsTrue (is_some (rowless_type o))) (takes.others k other) h))
   where
     of_rows : (t : TableState) (rows : List TableRow) → length rows ≡ 1 → IsTrue (is_some (rowless t rows)) → ⊥
     of_rows t [] long h = absurd (omega (arith, long))

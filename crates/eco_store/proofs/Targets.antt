@@ -1,8 +1,7 @@
 -- Targets stay while tables change.
 use Rattle.std.proofs.Common.{◌≡◌, ℕ, ◌≤◌, Bool, true, false, true≢false, ◌||◌, IsTrue, if◌then◌else◌, List, [], ◌∷◌, ◌++◌}
-use Rattle.std.proofs.Common.{Option, Some, None, unwrap_or, OnSome, IfNone, nat_eq, refl, sym, ap, subst, ◌∙◌, arith, inl, inr}
+use Rattle.std.proofs.Common.{Option, Some, None, unwrap_or, OnSome, IfNone, nat_eq, refl, sym, ap, ◌∙◌, arith}
 use Rattle.std.specs.List.{list_any}
-use Rattle.std.proofs.lemmas.Bool.{cases_eq}
 use Rattle.std.proofs.lemmas.List.Folds.{list_any-append}
 use Rattle.eco_ids.specs.declared.id.Id.{Id}
 use Rattle.eco_tables.specs.Table.{TableState}
@@ -10,6 +9,7 @@ use Rattle.eco_tables.specs.Tables.{table_in, no_table, SetsSlot}
 use Rattle.eco_archetypes.specs.Archetypes.{KeepsRoom, SameSlots}
 use Rattle.eco_store.specs.Staying.{StayingState, with_target, SameIn}
 use Rattle.eco_store.proofs.RowChanges.{is_equal}
+use Rattle.eco_store.proofs.Views.{at_each}
 
 -- a target stays one
 pub still_targeted : (p : StayingState) (n m : ℕ) → IsTrue (list_any (nat_eq m) p.targets) → IsTrue (list_any (nat_eq m) (with_target p n).targets)
@@ -36,13 +36,7 @@ same_targets s s' targets n None free dropped kept m among = kept m
 
 -- a table changes and has no less room, and so has none
 pub room_won : (s s1 : List (Option TableState)) (n : ℕ) (t : TableState) → SetsSlot s s1 n (Some t) → (table_in s n).room ≤ t.room → KeepsRoom s s1
-room_won s s1 n t sets more m =
-    elim (cases_eq m n) [
-      | inl here ↦
-          let now : (table_in s1 n).room ≡ t.room = ap (λ o. (unwrap_or o no_table).room) sets.changed in
-          let kept : (table_in s n).room ≤ (table_in s1 n).room = omega (arith, now, more) in
-          subst (λ k. (table_in s k).room ≤ (table_in s1 k).room) (sym here) kept
-      | inr other ↦
-          let same = ap (λ o. (unwrap_or o no_table).room) (sets.others m other) in
-          omega (arith, same)
-    ]
+room_won s s1 n t sets more =
+    at_each n (λ m. (table_in s m).room ≤ (table_in s1 m).room)
+    (let now : (table_in s1 n).room ≡ t.room = ap (λ o. (unwrap_or o no_table).room) sets.changed in omega (arith, now, more))
+    (λ m other. let same = ap (λ o. (unwrap_or o no_table).room) (sets.others m other) in omega (arith, same))

@@ -1,8 +1,7 @@
 -- Tables that lose rows, and what that leaves of the plans over them.
 use Rattle.std.proofs.Common.{◌<◌, map, ◌≡◌, ℕ, ◌≤◌, Bool, true, false, true≢false, List, length, get_or, Option, Some, option_map, unwrap_or}
-use Rattle.std.proofs.Common.{IsSome, nat_eq, refl, sym, ap, subst, ◌∙◌, arith, inl, inr}
+use Rattle.std.proofs.Common.{IsSome, nat_eq, refl, sym, ap, ◌∙◌, arith}
 use Rattle.std.specs.List.{list_any}
-use Rattle.std.proofs.lemmas.Bool.{cases_eq}
 use Rattle.eco_tables.specs.Table.{TableState}
 use Rattle.eco_tables.specs.Tables.{slot_of, table_in, no_table, SetsSlot}
 use Rattle.eco_archetypes.specs.Archetypes.{type_at}
@@ -13,6 +12,7 @@ use Rattle.eco_store.specs.Staying.{SameIn}
 use Rattle.eco_store.specs.Transfers.{change_of, AreNamed, IsPlan, HasRoom, Thins, due}
 use Rattle.eco_store.proofs.Pouring.{changes_alike, plan_alike, due_fewer, due_none}
 use Rattle.eco_store.proofs.Targets.{room_won}
+use Rattle.eco_store.proofs.Views.{at_each}
 
 pub thins_same : (s : List (Option TableState)) (slots : List ℕ) → Thins s s slots
 thins_same s slots = record { types = λ n among. refl; rows = λ n among. omega arith; room = λ n among. omega arith }
@@ -38,16 +38,10 @@ thins_without s s1 s2 n t slots there sets typed less more same = record {
 }
   where
     fewer : (m : ℕ) → length (table_in s1 m).rows ≤ length (table_in s m).rows
-    fewer m =
-        elim (cases_eq m n) [
-          | inl here ↦
-              let now : length (table_in s1 n).rows ≡ length t.rows = ap (λ o. length (unwrap_or o no_table).rows) sets.changed in
-              let none_more : length (table_in s1 n).rows ≤ length (table_in s n).rows = omega (arith, now, less) in
-              subst (λ k. length (table_in s1 k).rows ≤ length (table_in s k).rows) (sym here) none_more
-          | inr other ↦
-              let stays = ap (λ o. length (unwrap_or o no_table).rows) (sets.others m other) in
-              omega (arith, stays)
-        ]
+    fewer =
+        at_each n (λ m. length (table_in s1 m).rows ≤ length (table_in s m).rows)
+        (let now : length (table_in s1 n).rows ≡ length t.rows = ap (λ o. length (unwrap_or o no_table).rows) sets.changed in omega (arith, now, less))
+        (λ m other. let stays = ap (λ o. length (unwrap_or o no_table).rows) (sets.others m other) in omega (arith, stays))
 
 module _ (s s' : List (Option TableState)) (slots : List ℕ) (ts : List Transfer) (thins : Thins s s' slots) (named : AreNamed slots ts) where
   from : (k : ℕ) (d : Transfer) → k < length ts → type_at s' (get_or ts k d).from ≡ type_at s (get_or ts k d).from

@@ -1,10 +1,9 @@
 -- What a store answers of one entity, and the store after a value or a name was written.
 use Rattle.std.proofs.Common.{◌≡◌, ◌≢◌, ℕ, zero, suc, ◌<◌, Bool, true, false, not, ◌&&◌, List, [], ◌∷◌, map, length, slice_get, set, get_or, Option, Some, None}
 use Rattle.std.proofs.Common.{option_map, option_and_then, unwrap_or, is_some, IsSome, IsTrue, if◌then◌else◌, ◌==◌, Result, MatchBool, MatchOption, refl, sym}
-use Rattle.std.proofs.Common.{ap, subst, ◌∙◌, inl, inr}
+use Rattle.std.proofs.Common.{ap, subst, ◌∙◌}
 use Rattle.std.specs.List.{All}
 use Rattle.std.specs.FinMap.Entries.{find}
-use Rattle.std.proofs.lemmas.Bool.{cases_eq}
 use Rattle.std.proofs.lemmas.Option.{slice_get_within, slice_get-get_or}
 use Rattle.eco_ids.specs.World.{Record}
 use Rattle.eco_ids.specs.declared.entity.Entity.{Entity}
@@ -12,7 +11,7 @@ use Rattle.eco_ids.specs.declared.id.Id.{Id}
 use Rattle.eco_ids.specs.declared.refusal.Refusal.{Refusal}
 use Rattle.eco_ids.specs.declared.refusal.Refusal.TheVariants.{NotAlive, Reserved, BadName, NameTaken}
 use Rattle.eco_ids.specs.declared.value.Value.{Value}
-use Rattle.eco_ids.specs.Indices.{changed, change_kept, Indexed, IndexState, Retired, Free, Living, record_in, record_of, with_record, is_alive, map_state}
+use Rattle.eco_ids.specs.Indices.{changed, change_kept, Indexed, Living, record_in, record_of, is_alive, map_state}
 use Rattle.eco_ids.specs.Names.{is_proper, is_same_name}
 use Rattle.eco_ids.specs.Order.{id_cmp}
 use Rattle.eco_ids.specs.Outcome.{Meets, is_out_of_memory, first_refusal, Answers, Refuses}
@@ -27,12 +26,13 @@ use Rattle.eco_store.specs.Seats.{Seat, IsSeated, seat_of, seen, held_of}
 use Rattle.eco_archetypes.specs.Archetypes.{row_at}
 use Rattle.eco_store.specs.Store.{record_for, record_name, held_at, held_in_store, read, seat_in, seat_at, HasPlace, IsStore, Stands, IsShown, seat_of_place}
 use Rattle.eco_store.proofs.SeatChanges.{no_some, one_some}
-use Rattle.std.proofs.lemmas.Option.{slice_get-map}
 use Rattle.eco_store.proofs.Newborn.{is_borne-map}
-use Rattle.eco_store.proofs.StoreChanges.{placed_record, seat_there, read_record, row_within, held_there}
+use Rattle.eco_store.proofs.StoreChanges.{place_from_seat, placed_record, seat_there, read_record, row_within, held_there}
 use Rattle.eco_ids.proofs.Lists.{slice_get-set_there, slice_get-set_other}
 use Rattle.eco_ids.proofs.States.{living_at, record_at}
-use Rattle.eco_store.proofs.Views.{ext_slice_get, seen_alike}
+use Rattle.eco_store.proofs.Views.{alike_set, at_each, changed_at, each_state, read_at, seen_alike}
+use Rattle.std.proofs.lemmas.List.{map-set}
+use Rattle.eco_store.proofs.SeatChanges.{rewritten_seated, who}
 
 -- ---- readers
 
@@ -96,59 +96,24 @@ module _ (w : Indexed Registration) (s s1 : List (Option TableState)) (e : Entit
   new_there = ap (λ xs. slice_get xs p.row) sets.changed ∙ slice_get-set_there rows p.row new_row old_row old_there
 
   elsewhere : (n k : ℕ) → (n ≡ p.table → k ≡ p.row → ⊥) → row_at s1 n k ≡ row_at s n k
-  elsewhere n k apart =
-      elim (cases_eq n p.table) [
-        | inl here ↦
-            ap (λ m. row_at s1 m k) here ∙ ap (λ xs. slice_get xs k) sets.changed
-            ∙ slice_get-set_other rows p.row k new_row (apart here) ∙ sym (ap (λ m. row_at s m k) here)
-        | inr other ↦ ap (λ xs. slice_get xs k) (sets.others n other)
-      ]
+  elsewhere =
+      at_each p.table (λ n. (k : ℕ) → (n ≡ p.table → k ≡ p.row → ⊥) → row_at s1 n k ≡ row_at s n k)
+      (λ k apart. ap (λ xs. slice_get xs k) sets.changed ∙ slice_get-set_other rows p.row k new_row (apart refl))
+      (λ n other k apart. ap (λ xs. slice_get xs k) (sets.others n other))
 
   seat : seat_at w e.index ≡ Some (seat_of e p.table p.row)
   seat = seat_there w e p own
 
-  -- a row is still there, and its entity with it
-  still : (n k : ℕ) (r : TableRow) → row_at s n k ≡ Some r → (x : TableRow) × (row_at s1 n k ≡ Some x) × (x.entity ≡ r.entity)
-  still n k r h =
-      elim (cases_eq n p.table) [
-        | inr other ↦ (r, elsewhere n k (λ a b. other a) ∙ h, refl)
-        | inl in_table ↦ elim (cases_eq k p.row) [
-          | inr other ↦ (r, elsewhere n k (λ a b. other b) ∙ h, refl)
-          | inl at_row ↦ (
-            new_row,
-            (λ t. row_at s1 (in_table t) (at_row t)) ∙ new_there,
-            ap (λ (x : TableRow). x.entity) (one_some (row_at s p.table p.row) old_row r old_there (sym (λ t. row_at s (in_table t) (at_row t)) ∙ h)),
-          )
-        ]
-      ]
-
-  was : (n k : ℕ) (x : TableRow) → row_at s1 n k ≡ Some x → (r : TableRow) × (row_at s n k ≡ Some r) × (r.entity ≡ x.entity)
-  was n k x h =
-      elim (cases_eq n p.table) [
-        | inr other ↦ (x, sym (elsewhere n k (λ a b. other a)) ∙ h, refl)
-        | inl in_table ↦ elim (cases_eq k p.row) [
-          | inr other ↦ (x, sym (elsewhere n k (λ a b. other b)) ∙ h, refl)
-          | inl at_row ↦ (
-            old_row,
-            (λ t. row_at s (in_table t) (at_row t)) ∙ old_there,
-            ap (λ (y : TableRow). y.entity) (one_some (row_at s1 p.table p.row) new_row x new_there (sym (λ t. row_at s1 (in_table t) (at_row t)) ∙ h)),
-          )
-        ]
-      ]
+  -- each row has its entity still
+  entities_same : (n k : ℕ) → who (row_at s1 n k) ≡ who (row_at s n k)
+  entities_same =
+      at_each p.table (λ n. (k : ℕ) → who (row_at s1 n k) ≡ who (row_at s n k))
+      (at_each p.row (λ k. who (row_at s1 p.table k) ≡ who (row_at s p.table k)) (ap who new_there ∙ sym (ap who old_there))
+      (λ k other. ap who (elsewhere p.table k (λ a. other))))
+      (λ n other k. ap who (elsewhere n k (λ a b. other a)))
 
   pub written_store : IsStore w s1
-  written_store = record {
-    seated = record {
-      there = λ j q h.
-          let old = store.seated.there j q h in
-          let now = still q.slot q.row old.0 old.1 in
-          (now.0, now.1, now.2 ∙ old.2);
-      back = λ n k x h.
-          let old = was n k x h in
-          sym (ap (λ (f : Entity). seat_at w f.index) old.2) ∙ store.seated.back n k old.0 old.1 ∙ ap (λ (f : Entity). Some (seat_of f n k)) old.2;
-    };
-    placed = store.placed;
-  }
+  written_store = record { seated = rewritten_seated (seat_at w) (row_at s) (row_at s1) entities_same store.seated; placed = store.placed }
 
   others_seen : (j : ℕ) → j ≢ e.index → (o : Option Seat) → seat_at w j ≡ o → option_map (seen (row_at s1)) o ≡ option_map (seen (row_at s)) o
   others_seen j other None h = refl
@@ -176,43 +141,30 @@ module _ (w : Indexed Registration) (s s1 : List (Option TableState)) (e : Entit
       let held : held_at (row_at s) r.0.place ≡ old_row.held = ap (held_at (row_at s)) r.2 ∙ ap held_of old_there in
       let after : Record = held_anew (record_for (row_at s) r.0) in
       let here : slice_get (read w s1).indices e.index ≡ Some (Living e.generation after) =
-      slice_get-map (map_state (record_for (row_at s1))) w.indices e.index ∙ ap (option_map (map_state (record_for (row_at s1)))) living
+      read_at w s1 e.index _ living
       ∙ (λ t. Some (Living e.generation
       (record {
         name = r.0.name;
         arity = r.0.arity;
         held = (ap (held_at (row_at s1)) r.2 ∙ ap held_of new_there ∙ ap f (sym held)) t;
       }))) in
-      let indices : (read w s1).indices ≡ set (read w s).indices e.index (Living e.generation after) =
-      ext_slice_get (read w s1).indices (set (read w s).indices e.index (Living e.generation after))
-      (λ j. elim (cases_eq j e.index) [
-        | inl h ↦
-            ap (slice_get (read w s1).indices) h ∙ here
-            ∙ sym (ap (slice_get (set (read w s).indices e.index (Living e.generation after))) h
-            ∙ slice_get-set_there (read w s).indices e.index (Living e.generation after) _ (living_at (read w s) e (record_for (row_at s) r.0) before))
-        | inr other ↦
-            seen_alike w w s s1 j refl (others_seen j other (seat_at w j) refl)
-            ∙ sym (slice_get-set_other (read w s).indices e.index j (Living e.generation after) other)
-      ]) in
+      let indices = alike_set (read w s1).indices (read w s).indices e.index (Living e.generation after) _ (read_at w s e.index _ living) here
+      (λ j other. seen_alike w w s s1 j refl (others_seen j other (seat_at w j) refl)) in
       (λ t. record { limit = w.limit; indices = indices t }) ∙ sym (ap (change_kept (read w s) e held_anew) before)
 
 -- ---- a name given
 record_of-read : (w : Indexed Registration) (s : List (Option TableState)) (e : Entity) →
     record_of (read w s) e ≡ option_map (record_for (row_at s)) (record_of w e)
 record_of-read w s e =
-    ap (λ o. record_in o e.generation) (slice_get-map (map_state (record_for (row_at s))) w.indices e.index) ∙ by (slice_get w.indices e.index)
+    ap (λ o. record_in o e.generation) (read_at w s e.index _ refl)
+    ∙ each_state
+    (λ o. record_in (option_map (map_state (record_for (row_at s))) o) e.generation ≡ option_map (record_for (row_at s)) (record_in o e.generation))
+    refl refl (λ g. refl) (λ g. with_test (e.generation == g)) (slice_get w.indices e.index)
   where
     with_test : (b : Bool) (r : Registration) → ◌≡◌ {A = Option Record} (if b then Some (record_for (row_at s) r) else None)
         (option_map (record_for (row_at s)) (if b then Some r else None))
     with_test true r = refl
     with_test false r = refl
-
-    by : (o : Option (IndexState Registration)) → record_in (option_map (map_state (record_for (row_at s))) o) e.generation
-        ≡ option_map (record_for (row_at s)) (record_in o e.generation)
-    by None = refl
-    by (Some Retired) = refl
-    by (Some (Free g)) = refl
-    by (Some (Living g r)) = with_test (e.generation == g) r
 
 pub alive_same : (w : Indexed Registration) (s : List (Option TableState)) (e : Entity) → is_alive (read w s) e ≡ is_alive w e
 alive_same w s e = ap is_some (record_of-read w s e) ∙ by (record_of w e)
@@ -221,42 +173,14 @@ alive_same w s e = ap is_some (record_of-read w s e) ∙ by (record_of w e)
     by None = refl
     by (Some r) = refl
 
-pub map-set : {X Y : Type 0} (f : X → Y) (xs : List X) (i : ℕ) (x : X) → map f (set xs i x) ≡ set (map f xs) i (f x)
-map-set f [] i x = refl
-map-set f (y ∷ ys) zero x = refl
-map-set f (y ∷ ys) (suc i) x = ap (λ zs. f y ∷ zs) (map-set f ys i x)
-
 module _ (w : Indexed Registration) (s : List (Option TableState)) (e : Entity) (name : Option (List ℕ)) where
-  seats_same : (r : Registration) → record_of w e ≡ Some r → (j : ℕ) → seat_at (with_record w e (renamed name r)) j ≡ seat_at w j
-  seats_same r h j =
-      elim (cases_eq j e.index) [
-        | inl here ↦
-            ap (λ k. seat_in (slice_get (set w.indices e.index (Living e.generation (renamed name r))) k)) here
-            ∙ ap seat_in (slice_get-set_there w.indices e.index (Living e.generation (renamed name r)) (Living e.generation r) (living_at w e r h))
-            ∙ sym (ap (seat_at w) here ∙ ap seat_in (living_at w e r h))
-        | inr other ↦ ap seat_in (slice_get-set_other w.indices e.index j (Living e.generation (renamed name r)) other)
-      ]
-
-  places_same : (r : Registration) → record_of w e ≡ Some r → ((j : ℕ) → HasPlace (slice_get w.indices j)) → (j : ℕ) →
-      HasPlace (slice_get (with_record w e (renamed name r)).indices j)
-  places_same r h had j =
-      elim (cases_eq j e.index) [
-        | inl here ↦
-            subst HasPlace (sym (ap (slice_get (set w.indices e.index (Living e.generation (renamed name r)))) here
-            ∙ slice_get-set_there w.indices e.index (Living e.generation (renamed name r)) (Living e.generation r) (living_at w e r h)))
-            (subst HasPlace (living_at w e r h) (had e.index))
-        | inr other ↦ subst HasPlace (sym (slice_get-set_other w.indices e.index j (Living e.generation (renamed name r)) other)) (had j)
-      ]
-
   renamed_store : IsStore w s → IsStore (changed w e (renamed name)) s
-  renamed_store store = by (record_of w e) refl
-    where
-      by : (o : Option Registration) → record_of w e ≡ o → IsStore (change_kept w e (renamed name) o) s
-      by None h = store
-      by (Some r) h = record {
-        seated = subst (λ P. IsSeated P (row_at s)) (sym (λ t j. seats_same r h j t)) store.seated;
-        placed = places_same r h store.placed;
-      }
+  renamed_store store = record {
+    seated =
+        subst (λ P. IsSeated P (row_at s)) (sym (λ t j. changed_at w e (renamed name) (λ a b. seat_in b ≡ seat_in a) (λ o. refl) (λ g r. refl) j t))
+        store.seated;
+    placed = λ j. changed_at w e (renamed name) (λ a b. HasPlace a → HasPlace b) (λ o h. h) (λ g r h. h) j (store.placed j);
+  }
 
   renamed_read : read (changed w e (renamed name)) s ≡ changed (read w s) e (with_name name)
   renamed_read = by (record_of w e) ∙ ap (change_kept (read w s) e (with_name name)) (sym (record_of-read w s e))
@@ -310,21 +234,6 @@ module _ (w : Indexed Registration) (s : List (Option TableState)) (e : Entity) 
           )
 
 -- ---- the tables show the store
-
-pub place_from_seat : (o : Option (IndexState Registration)) (e : Entity) (n k : ℕ) → seat_in o ≡ Some (seat_of e n k)
-    → (r : Registration) × (o ≡ Some (Living e.generation r)) × (r.place ≡ Some (record { table = n; row = k }))
-place_from_seat None e n k h = absurd (cc)
-place_from_seat (Some Retired) e n k h = absurd (cc)
-place_from_seat (Some (Free g)) e n k h = absurd (cc)
-place_from_seat (Some (Living g r)) e n k h = by r.place refl h
-  where
-    by : (p : Option Place) → r.place ≡ p → option_map (seat_of_place g) p ≡ Some (seat_of e n k)
-        → (x : Registration) × (◌≡◌ {A = Option (IndexState Registration)} (Some (Living g r)) (Some (Living e.generation x)))
-        × (x.place ≡ Some (record { table = n; row = k }))
-    by None is h = absurd (cc)
-    by (Some p) is h =
-        let same : seat_of_place g p ≡ seat_of e n k = cc in
-        (r, (λ t. Some (Living (same t).generation r)), is ∙ (λ t. Some (record { table = (same t).slot; row = (same t).row })))
 
 pub slot_there : (s : List (Option TableState)) (n k : ℕ) (r : TableRow) → row_at s n k ≡ Some r → slot_of s n ≡ Some (table_in s n)
 slot_there s n k r = by (slot_of s n)

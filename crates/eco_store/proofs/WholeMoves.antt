@@ -10,7 +10,7 @@ use Rattle.std.proofs.lemmas.Option.{slice_get-map, slice_get_past, slice_get_wi
 use Rattle.eco_ids.specs.declared.entity.Entity.{Entity}
 use Rattle.eco_ids.specs.declared.id.Id.{Id}
 use Rattle.eco_ids.specs.Indices.{changed, change_kept, Indexed, IndexState, Retired, Free, Living, is_alive, map_state}
-use Rattle.eco_ids.proofs.Lists.{not_equal, slice_get-set_there, slice_get-set_other}
+use Rattle.eco_ids.proofs.Lists.{not_equal}
 use Rattle.eco_ids.proofs.States.{record_at}
 use Rattle.eco_entities.specs.declared.place.Place.{Place}
 use Rattle.eco_entities.specs.Registration.{Registration, placed}
@@ -29,8 +29,9 @@ use Rattle.eco_store.proofs.Retyping.{other_type, own_type}
 use Rattle.eco_store.proofs.RowChanges.{is_equal}
 use Rattle.eco_store.proofs.RowCounts.{rows_bounded}
 use Rattle.eco_store.proofs.SeatChanges.{no_some, one_some}
-use Rattle.eco_store.proofs.Values.{place_from_seat, has_place}
-use Rattle.eco_store.proofs.Views.{ext_slice_get}
+use Rattle.eco_store.proofs.Values.{has_place}
+use Rattle.eco_store.proofs.StoreChanges.{place_from_seat}
+use Rattle.eco_store.proofs.Views.{alike_set, each_state, ext_slice_get}
 
 slice_get-front : {X : Type 0} (xs ys : List X) (i : ℕ) → i < length xs → slice_get (xs ++ ys) i ≡ slice_get xs i
 slice_get-front [] ys i within = absurd (omega arith)
@@ -46,25 +47,19 @@ slice_get-behind (x ∷ xs) ys i =
 
 module _ (t : Transfer) (end count : ℕ) (p : Place) where
   pub placed_there : p.table ≡ t.from → p.row < count → place_after t end count p ≡ record { table = t.to; row = end + p.row }
-  placed_there here below =
-      (λ i. if is_equal p.table t.from here i && nat_lt p.row count then record { table = t.to; row = end + p.row } else p)
-      ∙ (λ i. if (Decides-ltb p.row count).1 below i then record { table = t.to; row = end + p.row } else p)
+  placed_there here below = rw (is_equal p.table t.from here, (Decides-ltb p.row count).1 below) refl
 
   placed_elsewhere : p.table ≢ t.from → place_after t end count p ≡ p
-  placed_elsewhere other = λ i. if not_equal p.table t.from other i && nat_lt p.row count then record { table = t.to; row = end + p.row } else p
+  placed_elsewhere other = rw (not_equal p.table t.from other) refl
 
   placed_later : count ≤ p.row → place_after t end count p ≡ p
-  placed_later above =
-      (λ i. if p.table == t.from && le-ltb p.row count above i then record { table = t.to; row = end + p.row } else p)
-      ∙ (λ i. if and-false (p.table == t.from) i then record { table = t.to; row = end + p.row } else p)
+  placed_later above = rw (le-ltb p.row count above, and-false (p.table == t.from)) refl
 
   -- the next row does not touch other places
   placed_alike : (p.table ≡ t.from → p.row ≢ count) → place_after t end count p ≡ place_after t end (count + 1) p
   placed_alike apart =
       elim (cases_eq p.table t.from) [
-        | inr other ↦
-            placed_elsewhere other
-            ∙ sym (λ i. if not_equal p.table t.from other i && nat_lt p.row (count + 1) then record { table = t.to; row = end + p.row } else p)
+        | inr other ↦ rw (not_equal p.table t.from other) refl
         | inl here ↦ ap (λ b. if p.table == t.from && b then record { table = t.to; row = end + p.row } else p) (by (nat_lt p.row count) refl (apart here))
       ]
     where
@@ -146,16 +141,10 @@ module _ (w : Indexed Registration) (s : List (Option TableState)) (store : IsSt
           })))
 
       indices : set (with_places w t end count).indices e.index new ≡ (with_places w t end (count + 1)).indices
-      indices = ext_slice_get _ _ (λ j. elim (cases_eq j e.index) [
-        | inl same ↦
-            ap (slice_get (set (with_places w t end count).indices e.index new)) same
-            ∙ slice_get-set_there (with_places w t end count).indices e.index new _ unplaced
-            ∙ sym (ap (slice_get (with_places w t end (count + 1)).indices) same ∙ here)
-        | inr other ↦
-            slice_get-set_other (with_places w t end count).indices e.index j new other
-            ∙ slice_get-map (map_state (placed_after t end count)) w.indices j ∙ alike j other (slice_get w.indices j) refl
-            ∙ sym (slice_get-map (map_state (placed_after t end (count + 1))) w.indices j)
-      ])
+      indices =
+          sym (alike_set (with_places w t end (count + 1)).indices (with_places w t end count).indices e.index new _ unplaced here (λ j other.
+          slice_get-map (map_state (placed_after t end (count + 1))) w.indices j ∙ sym (alike j other (slice_get w.indices j) refl)
+          ∙ sym (slice_get-map (map_state (placed_after t end count)) w.indices j)))
 
 -- who stands in a row has its seat
 pub seat_of_row : (w : Indexed Registration) (s : List (Option TableState)) (n k : ℕ) (es : List Entity) (d : Entity) → IsStore w s
@@ -290,17 +279,13 @@ module _ (w : Indexed Registration) (s s1 : List (Option TableState)) (t : Trans
   seat_after q = seat_of_place q.generation (after (record { table = q.slot; row = q.row }))
 
   seats : (j : ℕ) → seat_at w1 j ≡ option_map seat_after (seat_at w j)
-  seats j = ap seat_in (slice_get-map (map_state (placed_after t end count)) w.indices j) ∙ by (slice_get w.indices j)
+  seats j = ap seat_in (slice_get-map (map_state (placed_after t end count)) w.indices j)
+      ∙ each_state (λ o. seat_in (option_map (map_state (placed_after t end count)) o) ≡ option_map seat_after (seat_in o)) refl refl (λ g. refl)
+      (λ g r. of_place g r.place) (slice_get w.indices j)
     where
       of_place : (g : ℕ) (o : Option Place) → option_map (seat_of_place g) (option_map after o) ≡ option_map seat_after (option_map (seat_of_place g) o)
       of_place g None = refl
       of_place g (Some p) = refl
-
-      by : (o : Option (IndexState Registration)) → seat_in (option_map (map_state (placed_after t end count)) o) ≡ option_map seat_after (seat_in o)
-      by None = refl
-      by (Some Retired) = refl
-      by (Some (Free g)) = refl
-      by (Some (Living g r)) = of_place g r.place
 
   pub whole_store : IsStore w1 s1
   whole_store = record {
@@ -328,10 +313,9 @@ module _ (w : Indexed Registration) (s s1 : List (Option TableState)) (t : Trans
       has_one (Some p) h = refl
 
       has : (o : Option (IndexState Registration)) → HasPlace o → HasPlace (option_map (map_state (placed_after t end count)) o)
-      has None h = h
-      has (Some Retired) h = h
-      has (Some (Free g)) h = h
-      has (Some (Living g r)) h = has_one r.place h
+      has =
+          each_state (λ o. HasPlace o → HasPlace (option_map (map_state (placed_after t end count)) o)) (λ h. h) (λ h. h) (λ g h. h)
+          (λ g r. has_one r.place)
 
   pub whole_pours : IsSome (slot_of s t.from) → IsSome (slot_of s t.to) → Pours s s1 t.from t.to
   whole_pours source target = record {

@@ -1,14 +1,17 @@
 //! Steps of two entities, both or neither. One of them goes to a table in which its room is taken first; so where the other
 //! stands alone, its table takes its next type where it stands, and no table of all its ids is made.
-ghost use Rattle.std.specs.Prelude.{◌≡◌, ◌≢◌, false, IsTrue, length, nat_eq};
+ghost use Rattle.std.specs.Prelude.{◌≡◌, ◌≢◌, ℕ, false, Some, IsTrue, IfOk, MatchBool, OnErr, length, nat_eq};
 ghost use Rattle.std.specs.List.{list_any};
+ghost use Rattle.eco_archetypes.specs.Archetypes.{SameSlots};
+ghost use Rattle.eco_entities.specs.Registration.{own_place};
 ghost use Rattle.eco_ids.specs.Indices.{is_alive};
 ghost use Rattle.eco_ids.specs.Order.{entity_eq};
 ghost use Rattle.eco_store.specs.Layout.{seen, Attempts, IsLaid, StepsBeside};
 ghost use Rattle.eco_store.specs.Store.{stepped};
-ghost use Rattle.eco_tables.specs.Tables.{table_in};
+ghost use Rattle.eco_tables.specs.Tables.{slot_of, table_in};
 
 use crate::layout::Layout;
+use eco_entities::Place;
 use eco_ids::{Entity, Id, TableSlot};
 use eco_tables::Tables;
 use std::alloc::AllocError;
@@ -60,8 +63,7 @@ impl Layout {
         requires apart { first.0 ≢ second.0 }
         ensures { Attempts self.old self.new (stepped (stepped (seen self.old) first) second) result }
     {
-        self.archetypes.tables().rows_have_ids();
-        let place = self.entities.place_of(second.0).unwrap();
+        let place = self.place_of(second.0);
         let to = self.step_target(place.table, second.1)?;
         self.step_beside(first, to)?;
         self.go_to(second.0, to);
@@ -75,18 +77,33 @@ impl Layout {
         requires kept { IsTrue (list_any (nat_eq kept) self.old.staying.targets) }
         ensures { StepsBeside self.old self.new step kept result }
     {
-        self.archetypes.tables().rows_have_ids();
-        let place = self.entities.place_of(step.0).unwrap();
+        let place = self.place_of(step.0);
         if place.table == kept {
             return self.step_over(step, kept);
         }
-        let turned = self
-            .archetypes
-            .step_alone(&self.entities, place.table, step.1)?;
-        if turned {
+        if self.turn(step, place)? {
             return Ok(());
         }
         self.step_over(step, kept)
+    }
+
+    /// Where an entity stands alone in its table, and no other has its next type, the table takes that along, and the answer is
+    /// true; else nothing changes. An `Err` comes where memory is refused, and then nothing has changed.
+    pub(crate) fn turn(&mut self, step: (Entity, Id), place: Place) -> Result<bool, AllocError>
+        requires laid { IsLaid self.old }
+        requires own { own_place self.old.entities step.0 ≡ Some place }
+        ensures laid { IsLaid self.new }
+        ensures entities { self.new.entities ≡ self.old.entities }
+        ensures staying { self.new.staying ≡ record self.old.staying { idle = self.new.staying.idle } }
+        ensures took { IfOk result (λ took. MatchBool took (seen self.new ≡ stepped (seen self.old) step)
+            (SameSlots self.old.archetypes self.new.archetypes)) }
+        ensures others { (m : ℕ) → m ≢ place.table
+            → slot_of self.new.archetypes m ≡ slot_of self.old.archetypes m }
+        ensures err { OnErr result (seen self.new ≡ seen self.old) }
+    {
+        self.archetypes.tables().rows_have_ids();
+        self.archetypes
+            .step_alone(&self.entities, place.table, step.1)
     }
 
     // What `step_beside` does, by a move to the table of the next type.
@@ -96,9 +113,7 @@ impl Layout {
         requires kept { IsTrue (list_any (nat_eq kept) self.old.staying.targets) }
         ensures { StepsBeside self.old self.new step kept result }
     {
-        // The type that the row leaves is that of its own ids, since each row has a value for each id of its table.
-        self.archetypes.tables().rows_have_ids();
-        let place = self.entities.place_of(step.0).unwrap();
+        let place = self.place_of(step.0);
         let to = self.step_target(place.table, step.1)?;
         self.go_to(step.0, to);
         Ok(())

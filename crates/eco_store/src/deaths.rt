@@ -28,7 +28,7 @@ impl Layout {
         // A place's row fits, as a table has no more rows than there are indices.
         self.entities.rules();
         needs_never_grow();
-        let place = self.entities.place_of(entity).unwrap();
+        let place = self.place_of(entity);
         let moved = self.archetypes.swap_out(place.table, place.row);
         fix_place(&mut self.entities, moved, place);
         self.entities.kill(entity);

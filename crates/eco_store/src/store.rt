@@ -3,17 +3,18 @@ ghost use Rattle.std.specs.Prelude.{◌≡◌, ◌≤◌, List, ℕ, [], length,
 ghost use Rattle.std.specs.Option.{option_copied};
 ghost use Rattle.std.specs.FinMap.Entries.{find};
 ghost use Rattle.eco_ids.specs.Births.{unfit_name, Makes};
+ghost use Rattle.eco_ids.specs.declared.refusal.Refusal.TheVariants.{NoMoreIds, OutOfMemory};
 ghost use Rattle.eco_ids.specs.Indices.{changed, is_alive, next_entity, record_of};
 ghost use Rattle.eco_ids.specs.Names.{named_entity};
 ghost use Rattle.eco_ids.specs.Order.{id_cmp, is_ascending};
 ghost use Rattle.eco_ids.specs.Renaming.{own_name};
 ghost use Rattle.eco_entities.specs.Registration.{entity_at, given_name};
 ghost use Rattle.eco_tables.specs.Table.{TableRow};
-ghost use Rattle.eco_store.specs.Placing.{Opposes};
 ghost use Rattle.eco_store.specs.Store.{Admission, CreatesRecord, RenamesRecord, MakesRecordAlive, held_in_store, own_arity_in_store, fits_in_store, record_name, type_in_store, record_with_written, Stands};
 ghost use Rattle.eco_store.specs.Lent.{AreTablesOf, KeepsData};
 
 use crate::layout::Layout;
+use crate::placing::seat;
 use crate::staying::Staying;
 use eco_archetypes::{Archetypes, Seed};
 use eco_entities::laws::needs_never_grow;
@@ -61,15 +62,17 @@ impl Drop for Store {
     }
 }
 
-// What stands against a new entity of this name: its name, or that no index is left.
-fn check_new(entities: &EntityIndex, name: Option<&str>) -> Result<(), Refusal>
-    ensures { Opposes (unfit_name given_name entities.now (option_copied name.entry))
-        (next_entity entities.now) result }
+// What a new entity of this name is refused with: its name, or that no index is left, else the want of memory.
+fn refusal(entities: &EntityIndex, name: Option<&str>) -> Refusal
+    ensures { MatchOption (unfit_name given_name entities.now (option_copied name.entry))
+        (MatchOption (next_entity entities.now) (result ≡ NoMoreIds) (λ e. result ≡ OutOfMemory)) (λ why. result ≡ why) }
 {
-    entities.check_name(name)?;
+    if let Err(why) = entities.check_name(name) {
+        return why;
+    }
     match entities.next() {
-        Some(_) => Ok(()),
-        None => Err(Refusal::NoMoreIds),
+        Some(_) => Refusal::OutOfMemory,
+        None => Refusal::NoMoreIds,
     }
 }
 
@@ -266,28 +269,24 @@ impl Store {
         self.layout.entities.rules();
         needs_never_grow();
         let Some(entity) = self.layout.entities.next() else {
-            self.layout.entities.check_name(name)?;
-            return Err(Refusal::NoMoreIds);
+            return Err(refusal(&self.layout.entities, name));
         };
-        let table = match self
+        // What stands against the entity is told before the want of memory.
+        let Ok(table) = self
             .layout
             .archetypes
             .room_for(&self.layout.entities, type_list, 1)
-        {
-            Ok(table) => table,
-            Err(refused) => {
-                // What stands against the entity is told before the want of memory.
-                check_new(&self.layout.entities, name)?;
-                return Err(Refusal::from(refused));
-            }
+        else {
+            return Err(refusal(&self.layout.entities, name));
         };
         match self.layout.entities.create_next(entity, name, arity) {
             Ok(created) => {
-                let row = self.layout.archetypes.tables().row_count(table);
-                self.layout.archetypes.push_row(table, created);
-                self.layout
-                    .entities
-                    .set_place(created, Place { table, row });
+                seat(
+                    &mut self.layout.entities,
+                    &mut self.layout.archetypes,
+                    created,
+                    table,
+                );
                 Ok(created)
             }
             Err(refused) => {
@@ -324,11 +323,14 @@ impl Store {
             .layout
             .archetypes
             .room_for(&self.layout.entities, &type_list, 1)?;
-        let row = self.layout.archetypes.tables().row_count(table);
-        self.layout.archetypes.push_row(table, e);
-        // The handle is free, as was asked above, so that this can't be refused, with the row already there.
+        // The handle is free, as was asked above, so that this can't be refused.
         self.layout.entities.make_alive(e)?;
-        self.layout.entities.set_place(e, Place { table, row });
+        seat(
+            &mut self.layout.entities,
+            &mut self.layout.archetypes,
+            e,
+            table,
+        );
         Ok(())
     }
 
@@ -352,7 +354,7 @@ impl Store {
         ensures written { self.new.entities ≡ changed self.old.entities e (record_with_written id value) }
         ensures had { result ≡ is_some (find id_cmp id (held_in_store self.old.entities e)) }
     {
-        let place = self.layout.entities.place_of(e).unwrap();
+        let place = self.layout.place_of(e);
         self.layout
             .archetypes
             .set_value(place.table, place.row, id, value)

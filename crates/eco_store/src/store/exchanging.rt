@@ -18,14 +18,11 @@ impl Store {
             (self.new.entities ≡ changed self.old.entities e (with_exchanged leaving coming)) }
         ensures err { OnErr result (self.new.entities ≡ self.old.entities) }
     {
-        // The type that the row leaves is that of its own ids, since each row has a value for each id of its table.
-        self.layout.archetypes.tables().rows_have_ids();
-        let place = self.layout.entities.place_of(e).unwrap();
-        let to = self
+        let place = self.layout.place_of(e);
+        let found = self
             .layout
             .archetypes
-            .exchange(&self.layout.entities, place.table, leaving, coming)?;
-        self.layout.carry(e, place, to);
-        Ok(())
+            .exchange(&self.layout.entities, place.table, leaving, coming);
+        self.layout.carry_to(e, place, found)
     }
 }

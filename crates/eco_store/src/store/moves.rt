@@ -18,20 +18,17 @@ impl Store {
         ensures err { OnErr result (self.new.entities ≡ self.old.entities) }
         ensures own { type_in_store self.old.entities e ≡ Some type_list.now → IsOk result }
     {
-        let tables = self.layout.archetypes.tables();
-        tables.rows_have_ids();
-        let place = self.layout.entities.place_of(e).unwrap();
-        let table = tables.get(place.table).unwrap();
+        let place = self.layout.place_of(e);
+        let table = self.layout.archetypes.tables().get(place.table).unwrap();
         // Under its own type an entity holds what it held, since the ids of its row ascend.
         if table.type_list().as_slice() == type_list.as_slice() {
             return Ok(());
         }
-        let to = self
+        let found = self
             .layout
             .archetypes
-            .room_for(&self.layout.entities, type_list, 1)?;
-        self.layout.carry(e, place, to);
-        Ok(())
+            .room_for(&self.layout.entities, type_list, 1);
+        self.layout.carry_to(e, place, found)
     }
 
     /// Gives each of these entities the type beside it, as [`retype`](Store::retype) does, one after another; one that doesn't

@@ -16,18 +16,15 @@ impl Store {
         ensures ok { OnOk result (self.new.entities ≡ changed self.old.entities e (with_toggled id)) }
         ensures err { OnErr result (self.new.entities ≡ self.old.entities) }
     {
-        // The type that the row leaves is that of its own ids, since each row has a value for each id of its table.
-        self.layout.archetypes.tables().rows_have_ids();
-        let place = self.layout.entities.place_of(e).unwrap();
+        let place = self.layout.place_of(e);
         let Some(led) = self.layout.archetypes.lead(place.table, id) else {
             return self.step_anew(e, id);
         };
-        let to = self
+        let found = self
             .layout
             .archetypes
-            .make_room(&self.layout.entities, led, 1)?;
-        self.layout.carry(e, place, to);
-        Ok(())
+            .make_room(&self.layout.entities, led, 1);
+        self.layout.carry_to(e, place, found)
     }
 
     // What `step` does, also where no edge is stored. An entity that stands alone in its table takes that along, where no other
@@ -39,22 +36,15 @@ impl Store {
         ensures ok { OnOk result (self.new.entities ≡ changed self.old.entities e (with_toggled id)) }
         ensures err { OnErr result (self.new.entities ≡ self.old.entities) }
     {
-        // The type that the row leaves is that of its own ids, since each row has a value for each id of its table.
-        self.layout.archetypes.tables().rows_have_ids();
-        let place = self.layout.entities.place_of(e).unwrap();
-        let turned = self
-            .layout
-            .archetypes
-            .step_alone(&self.layout.entities, place.table, id)?;
-        if turned {
+        let place = self.layout.place_of(e);
+        if self.layout.turn((e, id), place)? {
             return Ok(());
         }
-        let to = self
+        let found = self
             .layout
             .archetypes
-            .step(&self.layout.entities, place.table, id, 1)?;
-        self.layout.carry(e, place, to);
-        Ok(())
+            .step(&self.layout.entities, place.table, id, 1);
+        self.layout.carry_to(e, place, found)
     }
 
     /// Gives each of two entities the id beside it, with zeros, or takes that away where it has it, as [`step`](Store::step)

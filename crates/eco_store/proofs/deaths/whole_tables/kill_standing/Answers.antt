@@ -52,6 +52,3 @@ returns-clause-dead c =
     let none : c.loop-left.left ≡ 0 = omega (arith, c.loop-left-test.false) in
     c.loop-left.invariant.dead ∙ ap (λ k. with_deaths w (drop k c.rows-standing.result.now)) none
     ∙ ap (with_deaths w) (c.rows-standing.ensures ∙ ap (λ (t : TableState). entities_of t.rows) (sym table))
-
-pub returns-clause-covers : goal.returns-clause-covers
-returns-clause-covers c = c.loop-left.invariant.covers

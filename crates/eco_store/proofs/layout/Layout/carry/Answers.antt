@@ -28,7 +28,7 @@ fix_place-requires-clause-living c =
     let moves =
     row_moves l.archetypes _ c.args.place to n _ _ c.requires.apart refl (λ t. record { table = n; row = end t }) c.move_row-filler.ensures.moves
     c.move_row-filler.ensures.moved in
-    changes.to_movers_live l.entities l.archetypes _ c.args.e c.args.place to _ _ c.requires.laid.store c.requires.own moves
+    changes.movers_live l.entities l.archetypes _ c.args.e c.args.place _ c.requires.laid.store c.requires.own moves.source moves.filled
 
 pub fix_place-requires-clause-fits : goal.fix_place-requires-clause-fits
 fix_place-requires-clause-fits c =
@@ -44,7 +44,7 @@ set_place-requires-clause-alive c =
     row_moves l.archetypes _ c.args.place to n _ _ c.requires.apart refl (λ t. record { table = n; row = end t }) c.move_row-filler.ensures.moves
     c.move_row-filler.ensures.moved in
     rw c.fix_place.ensures
-    (changes.to_alive l.entities l.archetypes _ c.args.e c.args.place to _ _ c.requires.laid.store c.requires.own moves)
+    (changes.still_lives l.entities l.archetypes _ c.args.e c.args.place _ c.requires.laid.store c.requires.own moves.source moves.filled)
 
 pub set_place-requires-clause-fits : goal.set_place-requires-clause-fits
 set_place-requires-clause-fits c =
@@ -64,7 +64,7 @@ release-requires c =
     record {
       store =
           rw (c.set_place.ensures, c.fix_place.ensures)
-          (changes.to_store l.entities l.archetypes _ c.args.e p to _ _ c.requires.laid.store c.requires.own moves);
+          (changes.to_store l.entities l.archetypes _ c.args.e p _ c.requires.laid.store c.requires.own moves.source moves.filled to _ moves);
       covers =
           placed_covers c.needs_never_grow.ensures _ _ _ c.args.e to c.set_place.ensures
           (fixed_covers c.needs_never_grow.ensures l.entities c.fix_place.new.entities _ c.move_row-filler.result p c.fix_place.ensures
@@ -72,32 +72,29 @@ release-requires c =
       tidy = rowless_moved l.archetypes _ p.table p.row n (all_staying l.staying) c.move_row-filler.ensures.moves c.requires.laid.tidy;
     }
 
-pub returns-clause-carries : goal.returns-clause-carries
-returns-clause-carries c =
+pub returns : goal.returns
+returns c =
     let l = c.args.self.now in
     let s = l.archetypes in
-    let p = c.args.place in
-    let there = changes.row_within l.entities s c.args.e p c.requires.laid.store c.requires.own in
-    record {
-      laid = c.release.ensures.laid;
-      staying = c.release.ensures.staying;
-      admits =
-          admits_row s c.move_row-filler.new.self c.release.new.self.archetypes p.table p.row c.args.to l.staying.targets
-          (there_by_row s p.table p.row there) (there_by_room s c.args.to c.requires.room) c.move_row-filler.ensures.moves
-          c.release.ensures.targets;
-    }
-
-pub returns-clause-seen : goal.returns-clause-seen
-returns-clause-seen c =
-    let l = c.args.self.now in
     let n = c.args.to in
     let p = c.args.place in
     let s1 = c.move_row-filler.new.self in
+    let there = changes.row_within l.entities s c.args.e p c.requires.laid.store c.requires.own in
     let to : Place = record { table = n; row = c.row_count-row.result } in
     let end = c.row_count-row.ensures ∙ ap (λ s. length (rows_in s n)) c.tables.ensures.same in
     let moves =
-    row_moves l.archetypes s1 p to n _ _ c.requires.apart refl (λ t. record { table = n; row = end t }) c.move_row-filler.ensures.moves
+    row_moves s s1 p to n _ _ c.requires.apart refl (λ t. record { table = n; row = end t }) c.move_row-filler.ensures.moves
     c.move_row-filler.ensures.moved in
-    seen_alike c.set_place.new.self s1 c.release.new.self c.release.ensures.entities c.release.ensures.rows
-    ∙ ap (λ v. read v s1) (c.set_place.ensures ∙ ap (λ v. changed v c.args.e (placed to)) c.fix_place.ensures)
-    ∙ changes.to_read l.entities l.archetypes s1 c.args.e p to _ _ c.requires.laid.store c.requires.own moves
+    record {
+      carries = record {
+        laid = c.release.ensures.laid;
+        staying = c.release.ensures.staying;
+        admits =
+            admits_row s s1 c.release.new.self.archetypes p.table p.row n l.staying.targets (there_by_row s p.table p.row there)
+            (there_by_room s n c.requires.room) c.move_row-filler.ensures.moves c.release.ensures.targets;
+      };
+      seen =
+          seen_alike c.set_place.new.self s1 c.release.new.self c.release.ensures.entities c.release.ensures.rows
+          ∙ ap (λ v. read v s1) (c.set_place.ensures ∙ ap (λ v. changed v c.args.e (placed to)) c.fix_place.ensures)
+          ∙ changes.to_read l.entities s s1 c.args.e p _ c.requires.laid.store c.requires.own moves.source moves.filled to _ moves;
+    }

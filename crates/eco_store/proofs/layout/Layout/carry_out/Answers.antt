@@ -4,9 +4,6 @@ use Rattle.eco_store.specs.Transfers.{AreNamed}
 use Rattle.eco_store.proofs.Thinning.{plan_thinned, room_thinned, same_changes}
 use Rattle.eco_store.proofs.layout.Layout.carry_out.Goals as goal
 
-pub move_all-requires-clause-laid : goal.move_all-requires-clause-laid
-move_all-requires-clause-laid c = c.kill_all.ensures.loses.laid
-
 pub move_all-requires-clause-named : goal.move_all-requires-clause-named
 move_all-requires-clause-named c = subst (λ slots. AreNamed slots c.args.transfers.now) (sym c.kill_all.ensures.loses.targets) c.requires.named
 

@@ -17,9 +17,6 @@ loop-next-init c =
       named = subst (All (λ n. IsTrue (list_any (nat_eq n) targets))) none (All-nil (λ n. IsTrue (list_any (nat_eq n) targets)));
     }
 
-pub target-requires : goal.target-requires
-target-requires c = c.loop-next.invariant.plans.laid
-
 pub returns-in_err-slot-clause-nothing : goal.returns-in_err-slot-clause-nothing
 returns-in_err-slot-clause-nothing c = λ none. let here = c.loop-next-test.true in let empty = ap length none in absurd (omega (arith, here, empty))
 
@@ -60,9 +57,3 @@ loop-next-preserved c =
           (All-push (λ k. IsTrue (list_any (nat_eq k) targets)) ns n
           (λ k d within. c.target.ensures.plans.targets _ (c.loop-next.invariant.named k d within)) c.in_ok-slot.ensures.named);
     }
-
-pub returns-clause-named : goal.returns-clause-named
-returns-clause-named c = c.loop-next.invariant.named
-
-pub returns-clause-plans : goal.returns-clause-plans
-returns-clause-plans c = c.loop-next.invariant.plans

@@ -20,12 +20,6 @@ loop-change-init c =
           (All-nil (λ (t : Transfer). IsTrue (list_any (nat_eq t.from) targets) × IsTrue (list_any (nat_eq t.to) targets)));
     }
 
-pub target-requires : goal.target-requires
-target-requires c = c.loop-change.invariant.plans.laid
-
-pub target-requires-in-loop-change : goal.target-requires-in-loop-change
-target-requires-in-loop-change c = c.in_ok-from.ensures.plans.laid
-
 pub returns-in_err-from-clause-plans : goal.returns-in_err-from-clause-plans
 returns-in_err-from-clause-plans c = plans_then _ _ _ c.loop-change.invariant.plans c.target.ensures.plans
 
@@ -37,16 +31,10 @@ pub returns-in_err-push-clause-plans : goal.returns-in_err-push-clause-plans
 returns-in_err-push-clause-plans c =
     plans_then _ _ _ c.loop-change.invariant.plans (plans_then _ _ _ c.target.ensures.plans c.target-in-loop-change.ensures.plans)
 
-pub returns-clause-plans : goal.returns-clause-plans
-returns-clause-plans c = c.loop-change.invariant.plans
-
 pub returns-clause-plan : goal.returns-clause-plan
 returns-clause-plan c =
     subst (IsPlan c.loop-change.self.archetypes c.loop-change.transfers.items)
     (take_all c.loop-change.change-index c.args.changes.now c.loop-change-test.false) c.loop-change.invariant.plan
-
-pub returns-clause-named : goal.returns-clause-named
-returns-clause-named c = c.loop-change.invariant.named
 
 pub loop-change-preserved : goal.loop-change-preserved
 loop-change-preserved c =

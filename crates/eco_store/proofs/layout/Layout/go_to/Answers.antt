@@ -1,14 +1,15 @@
 use Rattle.std.proofs.Common.{◌≡◌, unwrap_or, IsTrue, Some, refl, sym, ap, subst, ◌∙◌}
 use Rattle.std.specs.Option.{option_copied}
 use Rattle.eco_ids.specs.Order.{id_cmp, is_ascending}
-use Rattle.eco_tables.specs.Tables.{slot_of, table_in, no_row, no_table, AllHaveIds}
+use Rattle.eco_tables.specs.Tables.{slot_of, table_in, no_table, AllHaveIds}
+use Rattle.eco_store.specs.Layout.{seen}
 use Rattle.eco_store.specs.Staying.{all_staying}
 use Rattle.eco_store.specs.Store.{read, with_type}
 use Rattle.eco_store.proofs.Clearing.{unplaced_dead}
 use Rattle.eco_store.proofs.Coming.{changed_dead}
 use Rattle.eco_store.proofs.Laid.{carries_none, laid_alike}
 use Rattle.eco_store.proofs.Rowless.{rowless_beside}
-use Rattle.eco_store.proofs.StoreChanges as changes
+use Rattle.eco_store.proofs.Stepping.{own_again, standing_type}
 use Rattle.eco_store.proofs.Values.{alive_same}
 use Rattle.eco_store.proofs.layout.Layout.go_to.Goals as goal
 
@@ -27,16 +28,14 @@ returns-in_default-clause-carries c = carries_none c.args.self.now c.requires.la
 -- who stands there holds what it held
 pub returns-then-place-to-clause-seen : goal.returns-then-place-to-clause-seen
 returns-then-place-to-clause-seen c =
-    let w = c.args.self.now.entities in
-    let s = c.args.self.now.archetypes in
-    let p = c.in-Some.place in
+    let l = c.args.self.now in
+    let s = l.archetypes in
     let own = sym c.place_of.ensures ∙ c.in-Some.is in
-    let there = changes.row_within w s c.args.e p c.requires.laid.store own in
     let had = subst AllHaveIds c.tables-tables.ensures.same c.rows_have_ids.ensures in
-    let is = had p.table p.row no_row there ∙ ap (λ n. (table_in s n).ids) c.if-place-to.true in
     let at = subst (λ x. slot_of x c.args.to ≡ Some c.unwrap.result.now) c.tables-tables.ensures.same (sym c.get.ensures ∙ ap option_copied c.unwrap.ensures) in
     let ids = c.type_list.ensures.ids ∙ sym (ap (λ o. (unwrap_or o no_table).ids) at) in
-    changes.same_type w s c.args.e p (table_in s c.args.to).ids c.requires.laid.store own is
+    own_again (seen l) c.args.e (table_in s c.args.to).ids
+    (standing_type l.entities s c.args.e c.in-Some.place c.requires.laid.store own had ∙ ap (λ n. Some (table_in s n).ids) c.if-place-to.true)
     (subst (λ xs. IsTrue (is_ascending id_cmp xs)) ids c.as_slice-ids.ensures.ascending)
 
 pub returns-then-place-to-clause-carries : goal.returns-then-place-to-clause-carries

@@ -1,9 +1,8 @@
-use Rattle.std.proofs.Common.{refl, sym, ap, ◌∙◌, arith}
+use Rattle.std.proofs.Common.{refl, ap, ◌∙◌, arith}
 use Rattle.eco_ids.specs.Indices.{with_death}
 use Rattle.eco_ids.proofs.Lists.{length-swap_remove}
 use Rattle.eco_entities.specs.Runs.{Kill}
 use Rattle.eco_tables.specs.Tables.{no_row, table_in, without_row}
-use Rattle.eco_archetypes.proofs.ArchetypeLemmas.{there_by_row}
 use Rattle.eco_store.specs.Layout.{rows_in}
 use Rattle.eco_store.specs.Staying.{StayingState, all_staying}
 use Rattle.eco_store.specs.Store.{read}
@@ -16,45 +15,41 @@ use Rattle.eco_store.proofs.StoreChanges as changes
 use Rattle.eco_store.proofs.Thinning.{thins_without}
 use Rattle.eco_store.proofs.layout.Layout.kill.Goals as goal
 
-pub swap_out-moved-requires : goal.swap_out-moved-requires
-swap_out-moved-requires c =
-    let l = c.args.self.now in
-    changes.row_within l.entities l.archetypes c.args.entity c.unwrap-place.result c.requires.laid.store (sym c.place_of.ensures ∙ c.unwrap-place.ensures)
-
 pub fix_place-requires-clause-living : goal.fix_place-requires-clause-living
 fix_place-requires-clause-living c =
     let l = c.args.self.now in
-    let p = c.unwrap-place.result in
+    let p = c.place_of-place.result in
     let takes = row_takes l.archetypes _ p c.swap_out-moved.result c.swap_out-moved.ensures.rows c.swap_out-moved.ensures.moved in
-    changes.out_movers_live l.entities l.archetypes _ c.args.entity p _ c.requires.laid.store (sym c.place_of.ensures ∙ c.unwrap-place.ensures) takes
+    changes.movers_live l.entities l.archetypes _ c.args.entity p _ c.requires.laid.store c.place_of-place.ensures.own takes.rows.changed takes.filled
 
 pub fix_place-requires-clause-fits : goal.fix_place-requires-clause-fits
 fix_place-requires-clause-fits c =
     let l = c.args.self.now in
-    own_fits l.entities l.archetypes c.args.entity c.unwrap-place.result c.rules.ensures c.requires.laid.store
-    (sym c.place_of.ensures ∙ c.unwrap-place.ensures)
+    own_fits l.entities l.archetypes c.args.entity c.place_of-place.result c.rules.ensures c.requires.laid.store
+    c.place_of-place.ensures.own
 
 pub kill-requires : goal.kill-requires
 kill-requires c =
     let l = c.args.self.now in
-    let p = c.unwrap-place.result in
+    let p = c.place_of-place.result in
     let takes = row_takes l.archetypes _ p c.swap_out-moved.result c.swap_out-moved.ensures.rows c.swap_out-moved.ensures.moved in
     rw c.fix_place.ensures
-    (changes.out_alive l.entities l.archetypes _ c.args.entity p _ c.requires.laid.store (sym c.place_of.ensures ∙ c.unwrap-place.ensures) takes)
+    (changes.still_lives l.entities l.archetypes _ c.args.entity p _ c.requires.laid.store c.place_of-place.ensures.own takes.rows.changed takes.filled)
 
 pub release-requires : goal.release-requires
 release-requires c =
     let l = c.args.self.now in
     let s = l.archetypes in
-    let p = c.unwrap-place.result in
-    let own = sym c.place_of.ensures ∙ c.unwrap-place.ensures in
+    let p = c.place_of-place.result in
+    let own = c.place_of-place.ensures.own in
     let takes = row_takes s _ p c.swap_out-moved.result c.swap_out-moved.ensures.rows c.swap_out-moved.ensures.moved in
     record {
       store =
-          rw (c.kill.ensures, c.fix_place.ensures) (changes.out_store l.entities s _ c.args.entity p _ c.requires.laid.store own takes);
+          rw (c.kill.ensures, c.fix_place.ensures)
+          (changes.out_store l.entities s _ c.args.entity p _ c.requires.laid.store own takes.rows.changed takes.filled takes.rows.others);
       covers =
           called c.needs_never_grow.ensures (Kill c.args.entity) _ _ _ (
-            rw c.fix_place.ensures (changes.out_alive l.entities s _ c.args.entity p _ c.requires.laid.store own takes),
+            rw c.fix_place.ensures (changes.still_lives l.entities s _ c.args.entity p _ c.requires.laid.store own takes.rows.changed takes.filled),
             c.kill.ensures,
           )
           (fixed_covers c.needs_never_grow.ensures l.entities c.fix_place.new.entities _ c.swap_out-moved.result p c.fix_place.ensures
@@ -62,31 +57,26 @@ release-requires c =
       tidy = rowless_emptied s _ p.table (all_staying l.staying) _ c.swap_out-moved.ensures.rows c.requires.laid.tidy;
     }
 
-pub returns-clause-loses : goal.returns-clause-loses
-returns-clause-loses c =
+pub returns : goal.returns
+returns c =
     let l = c.args.self.now in
     let s = l.archetypes in
-    let p = c.unwrap-place.result in
-    let own = sym c.place_of.ensures ∙ c.unwrap-place.ensures in
-    let there = there_by_row s p.table p.row (changes.row_within l.entities s c.args.entity p c.requires.laid.store own) in
-    let less = length-swap_remove (rows_in s p.table) p.row no_row in
-    record {
-      laid = c.release.ensures.laid;
-      targets = ap (λ (q : StayingState). q.targets) c.release.ensures.staying;
-      thins =
-          thins_without s c.swap_out-moved.new.self c.release.new.self.archetypes p.table (without_row (table_in s p.table) p.row)
-          l.staying.targets there c.swap_out-moved.ensures.rows refl (omega (arith, less)) (omega arith) c.release.ensures.targets;
-    }
-
-pub returns-clause-seen : goal.returns-clause-seen
-returns-clause-seen c =
-    let l = c.args.self.now in
-    let p = c.unwrap-place.result in
     let s1 = c.swap_out-moved.new.self in
-    let takes = row_takes l.archetypes s1 p c.swap_out-moved.result c.swap_out-moved.ensures.rows c.swap_out-moved.ensures.moved in
-    seen_alike c.kill.new.self s1 c.release.new.self c.release.ensures.entities c.release.ensures.rows
-    ∙ ap (λ v. read v s1) (c.kill.ensures ∙ ap (λ v. with_death v c.args.entity) c.fix_place.ensures)
-    ∙ changes.out_read l.entities l.archetypes s1 c.args.entity p _ c.requires.laid.store (sym c.place_of.ensures ∙ c.unwrap-place.ensures) takes
-
-pub returns-clause-staying : goal.returns-clause-staying
-returns-clause-staying c = c.release.ensures.staying
+    let p = c.place_of-place.result in
+    let less = length-swap_remove (rows_in s p.table) p.row no_row in
+    let takes = row_takes s s1 p c.swap_out-moved.result c.swap_out-moved.ensures.rows c.swap_out-moved.ensures.moved in
+    record {
+      loses = record {
+        laid = c.release.ensures.laid;
+        targets = ap (λ (q : StayingState). q.targets) c.release.ensures.staying;
+        thins =
+            thins_without s s1 c.release.new.self.archetypes p.table (without_row (table_in s p.table) p.row) l.staying.targets
+            c.place_of-place.ensures.there c.swap_out-moved.ensures.rows refl (omega (arith, less)) (omega arith) c.release.ensures.targets;
+      };
+      seen =
+          seen_alike c.kill.new.self s1 c.release.new.self c.release.ensures.entities c.release.ensures.rows
+          ∙ ap (λ v. read v s1) (c.kill.ensures ∙ ap (λ v. with_death v c.args.entity) c.fix_place.ensures)
+          ∙ changes.out_read l.entities s s1 c.args.entity p _ c.requires.laid.store c.place_of-place.ensures.own takes.rows.changed takes.filled
+          takes.rows.others;
+      staying = c.release.ensures.staying;
+    }

@@ -18,9 +18,6 @@ loop-done-init c = record {
   seen = sym (nobody_dies (seen c.args.self.now));
 }
 
-pub kill_next-done-requires-clause-laid : goal.kill_next-done-requires-clause-laid
-kill_next-done-requires-clause-laid c = c.loop-done.invariant.loses.laid
-
 pub loop-done-preserved : goal.loop-done-preserved
 loop-done-preserved c =
     let es = c.args.dead.now in
@@ -44,9 +41,6 @@ loop-done-preserved c =
           next.seen ∙ (λ t. after_deaths (was.seen t) (has_item entity_cmp (take c.kill_next-done.result (rest t))))
           ∙ more_die (seen l) es done c.kill_next-done.result;
     }
-
-pub returns-clause-loses : goal.returns-clause-loses
-returns-clause-loses c = c.loop-done.invariant.loses
 
 pub returns-clause-seen : goal.returns-clause-seen
 returns-clause-seen c =

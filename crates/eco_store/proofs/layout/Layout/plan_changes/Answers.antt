@@ -3,12 +3,6 @@ use Rattle.eco_store.proofs.Laid.{plans_then}
 use Rattle.eco_store.proofs.Pouring.{plan_kept}
 use Rattle.eco_store.proofs.layout.Layout.plan_changes.Goals as goal
 
-pub take_room-requires-clause-laid : goal.take_room-requires-clause-laid
-take_room-requires-clause-laid c = c.find_transfers.ensures.plans.laid
-
-pub returns-in_err-transfers-clause-plans : goal.returns-in_err-transfers-clause-plans
-returns-in_err-transfers-clause-plans c = c.find_transfers.ensures.plans
-
 pub returns-in_err-take_room-clause-plans : goal.returns-in_err-take_room-clause-plans
 returns-in_err-take_room-clause-plans c = plans_then _ _ _ c.find_transfers.ensures.plans c.take_room.ensures.plans
 

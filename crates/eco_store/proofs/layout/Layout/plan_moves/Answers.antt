@@ -3,9 +3,6 @@ use Rattle.eco_store.proofs.Coming.{all_there, none_typed, typed_alike}
 use Rattle.eco_store.proofs.Laid.{plans_then}
 use Rattle.eco_store.proofs.layout.Layout.plan_moves.Goals as goal
 
-pub take_places-requires-clause-laid : goal.take_places-requires-clause-laid
-take_places-requires-clause-laid c = c.find_tables.ensures.plans.laid
-
 pub take_places-requires-clause-there : goal.take_places-requires-clause-there
 take_places-requires-clause-there c =
     rw c.deref.ensures.value (all_there c.find_tables.new.self.archetypes c.args.moves.now c.in_ok-slots.slots.items c.in_ok-slots.ensures.typed)
@@ -22,9 +19,6 @@ returns-in_err-take_places-clause-nothing c = λ none.
 
 pub returns-in_err-slots-clause-nothing : goal.returns-in_err-slots-clause-nothing
 returns-in_err-slots-clause-nothing c = λ none. let bad = c.in_err-slots.ensures.nothing none in absurd (cc)
-
-pub returns-in_err-slots-clause-plans : goal.returns-in_err-slots-clause-plans
-returns-in_err-slots-clause-plans c = c.find_tables.ensures.plans
 
 pub returns-clause-plans : goal.returns-clause-plans
 returns-clause-plans c = plans_then _ _ _ c.find_tables.ensures.plans c.take_places.ensures.plans

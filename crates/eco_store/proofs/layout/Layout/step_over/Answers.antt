@@ -1,23 +1,15 @@
-use Rattle.std.proofs.Common.{sym, subst, ◌∙◌, arith}
+use Rattle.std.proofs.Common.{◌∙◌, arith}
 use Rattle.std.proofs.lemmas.Result.{err_from_is_err_and}
-use Rattle.eco_tables.specs.Tables.{table_in, AllHaveIds}
-use Rattle.eco_archetypes.proofs.ArchetypeLemmas.{there_as_typed, there_by_row, typed_table}
+use Rattle.eco_index.specs.Edges.{toggled}
+use Rattle.eco_archetypes.proofs.ArchetypeLemmas.{there_as_typed, typed_table}
 use Rattle.eco_ids.proofs.Results.{err_says}
+use Rattle.eco_ids.specs.Indices.{changed}
 use Rattle.eco_store.specs.Layout.{seen}
-use Rattle.eco_store.proofs.Coupled.{goes_over, move_leaves}
+use Rattle.eco_store.specs.Store.{with_type}
+use Rattle.eco_store.proofs.Coupled.{move_leaves}
 use Rattle.eco_store.proofs.Laid.{plans_seen}
-use Rattle.eco_store.proofs.StoreChanges.{row_within}
+use Rattle.eco_store.proofs.Stepping.{leads_to}
 use Rattle.eco_store.proofs.layout.Layout.step_over.Goals as goal
-
-pub step_target-requires-clause-slot : goal.step_target-requires-clause-slot
-step_target-requires-clause-slot c =
-    let l = c.args.self.now in
-    let p = c.unwrap-place.result in
-    let own = sym c.place_of.ensures ∙ c.unwrap-place.ensures in
-    there_by_row _ p.table p.row (row_within l.entities l.archetypes c.args.step.0 p c.requires.laid.store own)
-
-pub go_to-requires-clause-laid : goal.go_to-requires-clause-laid
-go_to-requires-clause-laid c = c.step_target.ensures.plans.laid
 
 pub go_to-requires-clause-there : goal.go_to-requires-clause-there
 go_to-requires-clause-there c = there_as_typed _ c.in_ok-to.to _ c.in_ok-to.ensures.typed
@@ -40,17 +32,14 @@ returns-in_err-to c =
 pub returns : goal.returns
 returns c =
     let l = c.args.self.now in
-    let p = c.unwrap-place.result in
-    let own = sym c.place_of.ensures ∙ c.unwrap-place.ensures in
-    let had = subst AllHaveIds c.tables.ensures.same c.rows_have_ids.ensures in
     let m = c.step_target.new.self in
+    let typed = typed_table m.archetypes c.in_ok-to.to _ c.in_ok-to.ensures.typed in
     record {
       steps = record {
         laid = c.go_to.ensures.carries.laid;
         ok =
-            c.go_to.ensures.seen
-            ∙ goes_over l.entities l.archetypes c.args.step.0 p c.requires.laid.store own had (seen m) (table_in m.archetypes c.in_ok-to.to).ids
-            c.args.step.1 (plans_seen l m c.step_target.ensures.plans) (typed_table m.archetypes c.in_ok-to.to _ c.in_ok-to.ensures.typed);
+            c.go_to.ensures.seen ∙ (λ t. changed (plans_seen l m c.step_target.ensures.plans t) c.args.step.0 (with_type (typed t)))
+            ∙ leads_to (seen l) c.args.step.0 _ c.place_of-place.ensures.typed (λ ids. toggled ids c.args.step.1);
         err = tt;
       };
       kept =

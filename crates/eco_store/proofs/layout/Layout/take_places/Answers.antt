@@ -54,9 +54,3 @@ loop-slot-init c = record {
 pub returns-clause-room : goal.returns-clause-room
 returns-clause-room c =
     subst (HasRoomFor c.loop-slot.self.archetypes) (take_all c.loop-slot.slot-index c.args.slots.now c.loop-slot-test.false) c.loop-slot.invariant.room
-
-pub returns-clause-plans : goal.returns-clause-plans
-returns-clause-plans c = c.loop-slot.invariant.plans
-
-pub returns-clause-types : goal.returns-clause-types
-returns-clause-types c = c.loop-slot.invariant.types

@@ -1,9 +1,6 @@
 use Rattle.eco_store.proofs.store.Store.delete_all.Goals.{in-Ok, in_default}
 use Rattle.eco_store.proofs.store.Store.delete_all.Goals as goal
 
-pub plan_changes-planned-requires : goal.plan_changes-planned-requires
-plan_changes-planned-requires c = c.self.invariant.laid
-
 pub carry_out-requires-clause-laid : goal.carry_out-requires-clause-laid
 carry_out-requires-clause-laid c = rw c.expect.ensures c.plan_changes-planned.ensures.plans.laid
 
@@ -12,6 +9,3 @@ forget-requires c = elim c.match-planned.branch [
   | in-Ok w ↦ rw w.self-inside-is w.carry_out.ensures.laid
   | in_default w ↦ rw w.self-inside-is c.plan_changes-planned.ensures.plans.laid
 ]
-
-pub invariant_of-self : goal.invariant_of-self
-invariant_of-self c = c.forget.ensures.settled

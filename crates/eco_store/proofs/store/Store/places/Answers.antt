@@ -1,9 +1,6 @@
 use Rattle.eco_store.proofs.Values.{shows}
 use Rattle.eco_store.proofs.store.Store.places.Goals as goal
 
-pub new-requires : goal.new-requires
-new-requires c = c.self.invariant.laid.store
-
 pub returns : goal.returns
 returns c =
     let l = c.self.inside.layout in

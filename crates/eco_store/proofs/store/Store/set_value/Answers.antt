@@ -1,22 +1,17 @@
-use Rattle.std.proofs.Common.{is_some, length, unwrap_or, sym, ap, ◌∙◌}
+use Rattle.std.proofs.Common.{List, is_some, length, unwrap_or, sym, ap, ◌∙◌}
 use Rattle.std.proofs.lemmas.List.{length-set}
 use Rattle.std.specs.FinMap.Entries.{find}
 use Rattle.eco_ids.specs.Order.{id_cmp}
 use Rattle.eco_tables.specs.Column.{with_held}
 use Rattle.eco_tables.specs.Tables.{no_table}
-use Rattle.eco_archetypes.proofs.ArchetypeLemmas.{there_by_row}
 use Rattle.eco_store.specs.Staying.{all_staying}
 use Rattle.eco_store.proofs.LaidRows.{sets_rows}
 use Rattle.eco_store.proofs.Needing.{fits_in}
 use Rattle.eco_store.proofs.Rowless.{rowless_rewritten}
-use Rattle.eco_store.proofs.StoreChanges.{row_within}
 use Rattle.eco_store.proofs.Values.{held_read, written_store, written_read}
 use Rattle.eco_store.proofs.store.Store.set_value.Goals as goal
-
-pub set_value-requires-clause-row : goal.set_value-requires-clause-row
-set_value-requires-clause-row c =
-    let l = c.self.inside.layout in
-    row_within l.entities l.archetypes c.args.e c.unwrap-place.result c.self.invariant.laid.store (sym c.place_of.ensures ∙ c.unwrap-place.ensures)
+use Rattle.eco_ids.specs.declared.id.Id.{Id}
+use Rattle.eco_ids.specs.declared.value.Value.{Value}
 
 pub set_value-requires-clause-fits : goal.set_value-requires-clause-fits
 set_value-requires-clause-fits c =
@@ -27,37 +22,34 @@ pub invariant_of-self : goal.invariant_of-self
 invariant_of-self c =
     let l = c.self.inside.layout in
     let s = l.archetypes in
-    let p = c.unwrap-place.result in
-    let own = sym c.place_of.ensures ∙ c.unwrap-place.ensures in
+    let p = c.place_of-place.result in
     let sets = c.set_value.ensures.written in
     record {
       laid = record {
         store =
-            written_store l.entities s _ c.args.e p (λ held. with_held held c.args.id c.args.value) c.self.invariant.laid.store own
+            written_store l.entities s _ c.args.e p (λ held. with_held held c.args.id c.args.value) c.self.invariant.laid.store c.place_of-place.ensures.own
             (sets_rows s _ p.table _ sets);
         covers = c.set_value.ensures.widths _ c.self.invariant.laid.covers;
         tidy =
             rowless_rewritten s c.set_value.new.self p.table (all_staying l.staying) _ sets
             (ap (λ o. length (unwrap_or o no_table).rows) sets.changed ∙ length-set _ _ _)
-            (there_by_row s p.table p.row (row_within l.entities s c.args.e p c.self.invariant.laid.store own)) c.self.invariant.laid.tidy;
+            c.place_of-place.ensures.there c.self.invariant.laid.tidy;
       };
       done = c.self.invariant.done;
     }
 
-pub returns-clause-written : goal.returns-clause-written
-returns-clause-written c =
+pub returns : goal.returns
+returns c =
     let l = c.self.inside.layout in
-    let p = c.unwrap-place.result in
-    rw (← c.self.view_is)
-    (written_read l.entities l.archetypes _ c.args.e p (λ held. with_held held c.args.id c.args.value) c.self.invariant.laid.store
-    (sym c.place_of.ensures ∙ c.unwrap-place.ensures) (sets_rows l.archetypes _ p.table _ c.set_value.ensures.written))
-
-pub returns-clause-had : goal.returns-clause-had
-returns-clause-had c =
-    let l = c.self.inside.layout in
-    let p = c.unwrap-place.result in
-    rw (← c.self.view_is)
-    (c.set_value.ensures.had
-    ∙ sym (ap (λ held. is_some (find id_cmp c.args.id held))
-    (held_read l.entities l.archetypes _ c.args.e p (λ held. with_held held c.args.id c.args.value) c.self.invariant.laid.store
-    (sym c.place_of.ensures ∙ c.unwrap-place.ensures) (sets_rows l.archetypes _ p.table _ c.set_value.ensures.written))))
+    let p = c.place_of-place.result in
+    let sets = sets_rows l.archetypes _ p.table _ c.set_value.ensures.written in
+    let held = λ (held : List (Id × Value)). with_held held c.args.id c.args.value in
+    record {
+      written =
+          rw (← c.self.view_is) (written_read l.entities l.archetypes _ c.args.e p held c.self.invariant.laid.store c.place_of-place.ensures.own sets);
+      had =
+          rw (← c.self.view_is)
+          (c.set_value.ensures.had
+          ∙ sym (ap (λ held. is_some (find id_cmp c.args.id held))
+          (held_read l.entities l.archetypes _ c.args.e p held c.self.invariant.laid.store c.place_of-place.ensures.own sets)));
+    }

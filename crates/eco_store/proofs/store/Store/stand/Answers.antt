@@ -15,24 +15,15 @@ unwrap-table-requires c =
     (row_within c.self.inside.layout.entities c.self.inside.layout.archetypes c.args.e c.in_ok-place.place c.self.invariant.laid.store
     (sym c.place_of.ensures ∙ c.in_ok-place.was)))
 
-pub returns-clause-stands : goal.returns-clause-stands
-returns-clause-stands c =
+pub returns : goal.returns
+returns c =
     let l = c.self.inside.layout in
-    rw (← c.self.view_is)
-    (stands_there l.entities l.archetypes c.args.e c.in_ok-place.place c.unwrap-table.result.now c.self.invariant.laid.store
-    (sym c.place_of.ensures ∙ c.in_ok-place.was)
-    (sym (c.get.ensures ∙ ap (λ s. slot_of s c.in_ok-place.place.table) c.tables.ensures.same) ∙ ap option_copied c.unwrap-table.ensures))
-
-pub returns-clause-own : goal.returns-clause-own
-returns-clause-own c =
-    let l = c.self.inside.layout in
-    own_there l.entities l.archetypes c.args.e c.in_ok-place.place c.unwrap-table.result.now c.self.invariant.laid.store
-    (sym c.place_of.ensures ∙ c.in_ok-place.was)
-    (sym (c.get.ensures ∙ ap (λ s. slot_of s c.in_ok-place.place.table) c.tables.ensures.same) ∙ ap option_copied c.unwrap-table.ensures)
-
-pub returns-clause-kept : goal.returns-clause-kept
-returns-clause-kept c =
-    let l = c.self.inside.layout in
-    rw (← c.self.view_is)
-    (kept_there l.entities l.archetypes c.in_ok-place.place.table c.unwrap-table.result.now c.self.invariant.laid.covers
-    (sym (c.get.ensures ∙ ap (λ s. slot_of s c.in_ok-place.place.table) c.tables.ensures.same) ∙ ap option_copied c.unwrap-table.ensures))
+    let p = c.in_ok-place.place in
+    let t = c.unwrap-table.result.now in
+    let own = sym c.place_of.ensures ∙ c.in_ok-place.was in
+    let slot = sym (c.get.ensures ∙ ap (λ s. slot_of s p.table) c.tables.ensures.same) ∙ ap option_copied c.unwrap-table.ensures in
+    record {
+      stands = rw (← c.self.view_is) (stands_there l.entities l.archetypes c.args.e p t c.self.invariant.laid.store own slot);
+      own = own_there l.entities l.archetypes c.args.e p t c.self.invariant.laid.store own slot;
+      kept = rw (← c.self.view_is) (kept_there l.entities l.archetypes p.table t c.self.invariant.laid.covers slot);
+    }

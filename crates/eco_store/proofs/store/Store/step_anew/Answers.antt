@@ -1,158 +1,62 @@
-use Rattle.std.proofs.Common.{◌≡◌, ℕ, List, Option, IsSome, unwrap_or, subst, sym, ap, ◌∙◌}
+use Rattle.std.proofs.Common.{◌≡◌, IsSome, OnErr, OnOk, Some, unwrap_or, subst, sym, ap, ◌∙◌}
 use Rattle.std.proofs.lemmas.Result.{err_from_is_err_and}
-use Rattle.eco_ids.specs.declared.id.Id.{Id}
-use Rattle.eco_tables.specs.Table.{TableState}
-use Rattle.eco_tables.specs.Tables.{no_table, slot_of, table_in, AllHaveIds}
+use Rattle.eco_ids.specs.Indices.{changed}
+use Rattle.eco_entities.specs.Registration.{own_place}
+use Rattle.eco_tables.specs.Tables.{no_table, table_in}
 use Rattle.eco_index.specs.Edges.{toggled}
-use Rattle.eco_archetypes.specs.Archetypes.{MayTakeType, SameRows, SameSlots}
-use Rattle.eco_archetypes.proofs.ArchetypeLemmas.{rows_from_slots, then_rows, there_by_row, typed_table}
-use Rattle.eco_ids.proofs.Results.{err_says}
-use Rattle.eco_store.specs.Staying.{all_staying}
-use Rattle.eco_store.proofs.Coupled.{goes_over, turns}
-use Rattle.eco_store.proofs.Laid.{laid_alike, still_settled}
-use Rattle.eco_store.proofs.StoreChanges.{row_within, same_read}
-use Rattle.eco_store.proofs.Taking.{rowless_slots, takes_rowless}
+use Rattle.eco_archetypes.proofs.ArchetypeLemmas.{rows_from_slots, then_rows}
+use Rattle.eco_store.specs.Layout.{seen}
+use Rattle.eco_store.specs.Store.{read, with_toggled, with_type}
+use Rattle.eco_store.proofs.Coupled.{not_turned}
+use Rattle.eco_store.proofs.Laid.{sought_err, sought_laid, sought_ok, still_settled}
+use Rattle.eco_store.proofs.Stepping.{leads_to}
 use Rattle.eco_store.proofs.store.Store.step_anew.Goals as goal
 
-same_toggled : (s s1 : List (Option TableState)) (n : ℕ) (i : Id) → slot_of s1 n ≡ slot_of s n
-    → toggled (table_in s1 n).ids i ≡ toggled (table_in s n).ids i
-same_toggled s s1 n i same = ap (λ o. toggled (unwrap_or o no_table).ids i) same
+pub returns-in_err-turn-clause-ok : goal.returns-in_err-turn-clause-ok
+returns-in_err-turn-clause-ok c = let p = err_from_is_err_and c.from_residual.result c.from_residual.ensures.1 in rw p.1 tt
 
-pub step_alone-requires : goal.step_alone-requires
-step_alone-requires c =
-    let l = c.self.inside.layout in
-    let p = c.unwrap-place.result in
-    there_by_row l.archetypes p.table p.row
-    (row_within l.entities l.archetypes c.args.e p c.self.invariant.laid.store (sym c.place_of.ensures ∙ c.unwrap-place.ensures))
+pub step-found-requires : goal.step-found-requires
+step-found-requires c =
+    subst IsSome (sym (not_turned _ _ _ c.if-branch.false c.in_ok-turn.ensures.took c.place_of-place.result.table)) c.place_of-place.ensures.there
 
--- where memory is refused for the table itself
+pub carry_to-requires-clause-laid : goal.carry_to-requires-clause-laid
+carry_to-requires-clause-laid c =
+    let tables = c.step-found.ensures in
+    sought_laid c.turn.new.self _ tables.rows c.step-found.result tables.rowless tables.widths c.turn.ensures.laid
+
+pub carry_to-requires-clause-own : goal.carry_to-requires-clause-own
+carry_to-requires-clause-own c =
+    subst (λ w. own_place w c.args.e ≡ Some c.place_of-place.result) (sym c.turn.ensures.entities) c.place_of-place.ensures.own
+
 pub invariant_of-self : goal.invariant_of-self
-invariant_of-self c =
-    let l = c.self.inside.layout in
-    let same = c.in_err-turned.ensures.err in
-    record {
-      laid =
-          laid_alike l _ l.staying _ _ c.self.invariant.laid (rows_from_slots _ _ same) c.step_alone.ensures.widths
-          (rowless_slots l.archetypes _ (all_staying l.staying) same c.self.invariant.laid.tidy);
-      done = c.self.invariant.done;
-    }
+invariant_of-self c = still_settled c.self.inside.layout _ c.turn.ensures.staying c.self.invariant c.turn.ensures.laid
 
-pub returns-in_err-turned-clause-ok : goal.returns-in_err-turned-clause-ok
-returns-in_err-turned-clause-ok c = let p = err_from_is_err_and c.from_residual.result c.from_residual.ensures.1 in rw p.1 tt
-
-pub returns-in_err-turned-clause-err : goal.returns-in_err-turned-clause-err
-returns-in_err-turned-clause-err c =
-    let l = c.self.inside.layout in
-    rw (← c.self.view_is)
-    (err_says c.from_residual.result (same_read l.entities l.archetypes _ (rows_from_slots _ _ c.in_err-turned.ensures.err)))
-
--- where the table takes the type
-pub invariant_of-self-then-turned : goal.invariant_of-self-then-turned
-invariant_of-self-then-turned c =
-    let l = c.self.inside.layout in
-    let s = l.archetypes in
-    let s1 = c.step_alone.new.self in
-    let p = c.unwrap-place.result in
-    let ids = toggled (table_in s p.table).ids c.args.id in
-    let takes = subst (MayTakeType s s1 p.table ids) c.if-turned.true c.in_ok-turned.ensures.ok in
-    let had = subst AllHaveIds c.tables.ensures.same c.rows_have_ids.ensures in
-    let own = sym c.place_of.ensures ∙ c.unwrap-place.ensures in
-    record {
-      laid = record {
-        store = (turns l.entities s c.args.e p c.self.invariant.laid.store own had s1 c.args.id takes.0 takes.1).0;
-        covers = c.step_alone.ensures.widths c.self.invariant.laid.covers;
-        tidy = takes_rowless s s1 p.table ids takes.0 takes.1 (all_staying l.staying) c.self.invariant.laid.tidy;
-      };
-      done = c.self.invariant.done;
-    }
-
-pub returns-then-turned-clause-ok : goal.returns-then-turned-clause-ok
-returns-then-turned-clause-ok c =
-    let l = c.self.inside.layout in
-    let s = l.archetypes in
-    let s1 = c.step_alone.new.self in
-    let p = c.unwrap-place.result in
-    let takes = subst (MayTakeType s s1 p.table (toggled (table_in s p.table).ids c.args.id)) c.if-turned.true c.in_ok-turned.ensures.ok in
-    let had = subst AllHaveIds c.tables.ensures.same c.rows_have_ids.ensures in
-    let own = sym c.place_of.ensures ∙ c.unwrap-place.ensures in
-    rw (← c.self.view_is) (turns l.entities s c.args.e p c.self.invariant.laid.store own had s1 c.args.id takes.0 takes.1).1
-
--- where the row goes to another table
-pub step-requires : goal.step-requires
-step-requires c =
-    let l = c.self.inside.layout in
-    let s = l.archetypes in
-    let p = c.unwrap-place.result in
-    let same : SameSlots s c.step_alone.new.self =
-    subst (MayTakeType s c.step_alone.new.self p.table (toggled (table_in s p.table).ids c.args.id)) c.if-turned.false c.in_ok-turned.ensures.ok in
-    subst IsSome (sym (same p.table))
-    (there_by_row s p.table p.row
-    (row_within l.entities s c.args.e p c.self.invariant.laid.store (sym c.place_of.ensures ∙ c.unwrap-place.ensures)))
-
-pub invariant_of-self-in_err-to : goal.invariant_of-self-in_err-to
-invariant_of-self-in_err-to c =
-    let l = c.self.inside.layout in
-    let s = l.archetypes in
-    let p = c.unwrap-place.result in
-    let same : SameSlots s c.step_alone.new.self =
-    subst (MayTakeType s c.step_alone.new.self p.table (toggled (table_in s p.table).ids c.args.id)) c.if-turned.false c.in_ok-turned.ensures.ok in
-    let slots = all_staying l.staying in
-    record {
-      laid =
-          laid_alike l _ l.staying _ _ c.self.invariant.laid (then_rows _ _ _ (rows_from_slots _ _ same) c.step.ensures.rows)
-          (λ was. c.step.ensures.widths (c.step_alone.ensures.widths was))
-          (c.in_err-to.ensures.rowless slots (rowless_slots _ _ slots same c.self.invariant.laid.tidy));
-      done = c.self.invariant.done;
-    }
-
-pub returns-in_err-to-clause-ok : goal.returns-in_err-to-clause-ok
-returns-in_err-to-clause-ok c =
-    let p = err_from_is_err_and c.from_residual-in_err-to.result c.from_residual-in_err-to.ensures.1 in rw p.1 tt
-
-pub returns-in_err-to-clause-err : goal.returns-in_err-to-clause-err
-returns-in_err-to-clause-err c =
-    let l = c.self.inside.layout in
-    let s = l.archetypes in
-    let p = c.unwrap-place.result in
-    let same : SameSlots s c.step_alone.new.self =
-    subst (MayTakeType s c.step_alone.new.self p.table (toggled (table_in s p.table).ids c.args.id)) c.if-turned.false c.in_ok-turned.ensures.ok in
-    rw (← c.self.view_is)
-    (err_says c.from_residual-in_err-to.result
-    (same_read l.entities s _ (then_rows _ _ _ (rows_from_slots _ _ same) c.step.ensures.rows)))
-
-pub carry-requires-clause-laid : goal.carry-requires-clause-laid
-carry-requires-clause-laid c =
-    let l = c.self.inside.layout in
-    let s = l.archetypes in
-    let p = c.unwrap-place.result in
-    let same : SameSlots s c.step_alone.new.self =
-    subst (MayTakeType s c.step_alone.new.self p.table (toggled (table_in s p.table).ids c.args.id)) c.if-turned.false c.in_ok-turned.ensures.ok in
-    let slots = all_staying l.staying in
-    laid_alike l _ l.staying _ _ c.self.invariant.laid (then_rows _ _ _ (rows_from_slots _ _ same) c.step.ensures.rows)
-    (λ was. c.step.ensures.widths (c.step_alone.ensures.widths was))
-    (c.in_ok-to.ensures.rowless slots (rowless_slots _ _ slots same c.self.invariant.laid.tidy))
-
-pub carry-requires-clause-own : goal.carry-requires-clause-own
-carry-requires-clause-own c = sym c.place_of.ensures ∙ c.unwrap-place.ensures
+pub invariant_of-self-then-branch : goal.invariant_of-self-then-branch
+invariant_of-self-then-branch c = still_settled c.self.inside.layout _ c.turn.ensures.staying c.self.invariant c.turn.ensures.laid
 
 pub invariant_of-self-2 : goal.invariant_of-self-2
 invariant_of-self-2 c =
-    still_settled c.self.inside.layout c.carry.new.self c.carry.ensures.carries.staying c.self.invariant c.carry.ensures.carries.laid
+    still_settled c.turn.new.self _ c.carry_to.ensures.staying
+    (still_settled c.self.inside.layout _ c.turn.ensures.staying c.self.invariant c.turn.ensures.laid) c.carry_to.ensures.laid
 
 pub returns-clause-ok : goal.returns-clause-ok
 returns-clause-ok c =
     let l = c.self.inside.layout in
-    let s = l.archetypes in
-    let s1 = c.step_alone.new.self in
-    let s2 = c.step.new.self in
-    let p = c.unwrap-place.result in
-    let same : SameSlots s s1 =
-    subst (MayTakeType s s1 p.table (toggled (table_in s p.table).ids c.args.id)) c.if-turned.false c.in_ok-turned.ensures.ok in
-    let rows : SameRows s s2 = then_rows s s1 s2 (rows_from_slots s s1 same) c.step.ensures.rows in
-    let had = subst AllHaveIds c.tables.ensures.same c.rows_have_ids.ensures in
-    let own = sym c.place_of.ensures ∙ c.unwrap-place.ensures in
+    let s2 = c.step-found.new.self in
+    let p = c.place_of-place.result in
+    let same = not_turned _ _ _ c.if-branch.false c.in_ok-turn.ensures.took in
+    let ids = toggled (table_in c.turn.new.self.archetypes p.table).ids c.args.id in
     rw (← c.self.view_is)
-    (c.carry.ensures.seen
-    ∙ goes_over l.entities s c.args.e p c.self.invariant.laid.store own had _ (table_in s2 c.in_ok-to.to).ids c.args.id
-    (same_read l.entities s s2 rows)
-    (typed_table s2 c.in_ok-to.to _ c.in_ok-to.ensures.typed ∙ same_toggled s s1 p.table c.args.id (same p.table)))
+    (sought_ok l s2 (then_rows _ _ _ (rows_from_slots _ _ same) c.step-found.ensures.rows) c.carry_to.result _ c.args.e ids (with_toggled c.args.id)
+    (ap (λ o. changed (seen l) c.args.e (with_type (toggled (unwrap_or o no_table).ids c.args.id))) (same p.table)
+    ∙ leads_to (seen l) c.args.e _ c.place_of-place.ensures.typed (λ ids. toggled ids c.args.id))
+    (subst (λ w. OnOk c.carry_to.result (seen c.carry_to.new.self ≡ changed (read w s2) c.args.e (with_type ids))) c.turn.ensures.entities
+    (c.carry_to.ensures.ok ids c.step-found.ensures.typed)))
+
+pub returns-clause-err : goal.returns-clause-err
+returns-clause-err c =
+    let s2 = c.step-found.new.self in
+    let same = not_turned _ _ _ c.if-branch.false c.in_ok-turn.ensures.took in
+    rw (← c.self.view_is)
+    (sought_err c.self.inside.layout s2 (then_rows _ _ _ (rows_from_slots _ _ same) c.step-found.ensures.rows) c.carry_to.result _
+    (subst (λ w. OnErr c.carry_to.result (seen c.carry_to.new.self ≡ read w s2)) c.turn.ensures.entities c.carry_to.ensures.err))

@@ -3,9 +3,6 @@ use Rattle.eco_store.specs.Layout.{seen}
 use Rattle.eco_store.specs.Store.{stepped}
 use Rattle.eco_store.proofs.store.Store.step_both.Goals as goal
 
-pub invariant_of-self : goal.invariant_of-self
-invariant_of-self c = c.forget.ensures.settled
-
 pub returns-clause-ok : goal.returns-clause-ok
 returns-clause-ok c =
     let called = c.step_both-stepped in

@@ -1,0 +1,20 @@
+use Rattle.std.proofs.Common.{sym, subst, ◌∙◌}
+use Rattle.eco_tables.specs.Tables.{AllHaveIds}
+use Rattle.eco_archetypes.proofs.ArchetypeLemmas.{there_by_row}
+use Rattle.eco_store.proofs.Stepping.{standing_type}
+use Rattle.eco_store.proofs.StoreChanges.{row_within}
+use Rattle.eco_store.proofs.layout.Layout.place_of.Goals as goal
+
+pub returns : goal.returns
+returns c =
+    let l = c.args.self.now in
+    let p = c.unwrap.result in
+    let own = sym c.place_of.ensures ∙ c.unwrap.ensures in
+    let row = row_within l.entities l.archetypes c.args.e p c.requires.laid.store own in
+    record {
+      own = own;
+      row = row;
+      there = there_by_row l.archetypes p.table p.row row;
+      typed =
+          standing_type l.entities l.archetypes c.args.e p c.requires.laid.store own (subst AllHaveIds c.tables.ensures.same c.rows_have_ids.ensures);
+    }

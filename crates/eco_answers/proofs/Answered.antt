@@ -1,33 +1,17 @@
 -- Those who pass as a query's test, each with the ids of its table, give the answer.
-use Rattle.eco_ids.proofs.Common.{◌≡◌, ℕ, suc, ◌+◌, ◌<◌, Bool, true, false, true≢false, cond, ◌&&◌, ◌||◌, List, [], ◌∷◌, ◌++◌, map, flat_map, filter}
-use Rattle.eco_ids.proofs.Common.{length}
-use Rattle.eco_ids.proofs.Common.{slice_get, Option, Some, option_map, unwrap_or, refl, sym, ap, ◌∙◌, arith, length-append, length-map, list_any}
-use Rattle.eco_ids.proofs.Common.{All, AllByRecursion}
-use Rattle.std.proofs.lemmas.List.{nil_from_length}
-use Rattle.std.proofs.Common.{get_or, drop}
-use Rattle.std.specs.Prelude.{IsTrue}
-use Rattle.std.specs.List.{slice_index_or}
-use Rattle.std.proofs.lemmas.List.Elements.{All-from_recursion, recursion_from_All}
-use Rattle.eco_ids.specs.Answer as answers
-use Rattle.eco_ids.specs.Answer.{answer, choices, entries_of}
-use Rattle.eco_ids.specs.Terms.{QueryTerm}
+use Rattle.eco_answers.proofs.Common.{◌≡◌, ℕ, suc, ◌+◌, ◌<◌, Bool, true, false, true≢false, cond, ◌&&◌, ◌||◌, List, [], ◌∷◌}
+use Rattle.eco_answers.proofs.Common.{◌++◌, map, flat_map, filter, length, slice_get, Option, Some, option_map, unwrap_or, refl, sym, ap, ◌∙◌, arith}
+use Rattle.eco_answers.proofs.Common.{length-append, length-map, list_any, All, AllByRecursion, nil_from_length, get_or, drop, IsTrue, slice_index_or}
+use Rattle.eco_answers.proofs.Common.{All-from_recursion, recursion_from_All, answer, choices, entries_of, QueryTerm, Entity, Id, Slot, QuerySlot, has_any}
+use Rattle.eco_answers.proofs.Common.{holds, matches_type, slot_view, term_view, TableState, table_in, Standing, asked, asks, results, results_at, FitsQuery}
 use Rattle.eco_ids.specs.World.{Record}
 use Rattle.eco_ids.specs.Indices.{Indexed, IndexState, Retired, Free, Living, living, living_from, record_of}
-use Rattle.eco_ids.specs.declared.entity.Entity.{Entity}
-use Rattle.eco_ids.specs.declared.id.Id.{Id}
 use Rattle.eco_ids.proofs.States.{record_at}
-use Rattle.eco_query.specs.declared.slot.Slot.{Slot}
-use Rattle.eco_query.specs.Queries.{QuerySlot, has_any, holds, matches_type, slot_view, term_view}
-use Rattle.eco_tables.specs.Table.{TableState}
-use Rattle.eco_tables.specs.Tables.{table_in}
 use Rattle.eco_store.specs.Holders.{entities_whose, passes}
 use Rattle.eco_store.specs.Ranking.{StandsIn}
 use Rattle.eco_store.specs.Store.{record_ids, type_in_store}
-use Rattle.eco_store.specs.declared.standing.Standing.{Standing}
-use Rattle.eco_answers.specs.Answers.{asked, asks}
-use Rattle.eco_answers.specs.Blocks.{results, results_at}
-use Rattle.eco_answers.specs.Fixed.{FitsQuery}
 use Rattle.eco_store.specs.Worlds.{world_of}
+use Rattle.eco_ids.specs.Answer as answers
 
 -- ---- which ids have a choice
 

@@ -1,27 +1,15 @@
 -- Rows for the choices of blocks.
-use Rattle.eco_ids.proofs.Common.{◌≡◌, ℕ, zero, suc, ◌+◌, ◌-◌, ◌<◌, ◌≤◌, List, [], ◌∷◌, ◌++◌, map, length, take, drop}
-use Rattle.std.proofs.Common.{None, Some, get_or, option_map, unwrap_or}
-use Rattle.eco_ids.specs.Answer.{choices}
-use Rattle.eco_ids.proofs.Common.{Option, refl, sym, ap, ◌∙◌, subst, arith, append_assoc, map-append}
-use Rattle.eco_ids.proofs.Common.{AllByRecursion, All}
-use Rattle.std.proofs.Common.{drop-cons}
-use Rattle.std.specs.List.{slice_index_or}
-use Rattle.std.proofs.lemmas.List.{get_or_default, length-map}
+use Rattle.eco_answers.proofs.Common.{◌≡◌, ℕ, zero, suc, ◌+◌, ◌-◌, ◌<◌, ◌≤◌, List, [], ◌∷◌, ◌++◌, map, length, take, drop}
+use Rattle.eco_answers.proofs.Common.{None, Some, get_or, option_map, unwrap_or, choices, Option, refl, sym, ap, ◌∙◌, subst, arith, append_assoc}
+use Rattle.eco_answers.proofs.Common.{map-append, AllByRecursion, All, drop-cons, slice_index_or, get_or_default, length-map, recursion_from_All}
+use Rattle.eco_answers.proofs.Common.{All-from_recursion, QueryTerm, Entity, Id, TableState, no_table, slot_of, table_in, Standing, IsEven, AreBlocks, IsBlock}
+use Rattle.eco_answers.proofs.Common.{block_at, standings_in, standings_from, results, results_at, standings_of, shown}
 use Rattle.std.proofs.Math.ListN.{get_or-map}
-use Rattle.std.proofs.lemmas.List.Elements.{recursion_from_All, All-from_recursion}
-use Rattle.eco_ids.specs.Answer as answers
-use Rattle.eco_ids.specs.Terms.{QueryTerm}
-use Rattle.eco_ids.specs.declared.entity.Entity.{Entity}
-use Rattle.eco_ids.specs.declared.id.Id.{Id}
-use Rattle.eco_tables.specs.Table.{TableState}
-use Rattle.eco_tables.specs.Tables.{no_table, slot_of, table_in}
 use Rattle.eco_caches.specs.Caching.{AreOnly, choices_on}
 use Rattle.eco_archetypes.specs.Archetypes.{type_at}
-use Rattle.eco_store.specs.declared.standing.Standing.{Standing}
-use Rattle.eco_entries.specs.Flat.{IsEven}
 use Rattle.eco_answers.specs.declared.blocks.Block.{Block}
 use Rattle.eco_answers.specs.declared.blocks.Blocks.{Blocks}
-use Rattle.eco_answers.specs.Blocks.{AreBlocks, IsBlock, block_at, standings_in, standings_from, results, results_at, standings_of, shown}
+use Rattle.eco_ids.specs.Answer as answers
 
 rows_more : (e : Entity) (first n : ℕ) → standings_from e first (suc n) ≡ standings_from e first n ++ record { entity = e; place = first + n } ∷ []
 rows_more e first zero = let k : first ≡ first + 0 = omega arith in ap (λ j. record { entity = e; place = j } ∷ []) k

@@ -1,31 +1,15 @@
 -- Entries that slots have wherever they hold.
-use Rattle.eco_ids.proofs.Common.{◌≡◌, ℕ, zero, suc, ◌+◌, ◌<◌, Bool, true, false, true≢false, cond, List, [], ◌∷◌, ◌++◌, map, flat_map, filter, length, take}
-use Rattle.eco_ids.proofs.Common.{Option, Some, refl, sym, ap, ◌∙◌, subst, arith, map-append, list_any, list_all, is_lt, IsTrue, All, AllByRecursion}
-use Rattle.std.specs.Prelude.{None, replicate, if◌then◌else◌}
+use Rattle.eco_answers.proofs.Common.{◌≡◌, ℕ, zero, suc, ◌+◌, ◌<◌, Bool, true, false, true≢false, cond, List, [], ◌∷◌, ◌++◌, map}
+use Rattle.eco_answers.proofs.Common.{flat_map, filter, length, take, Option, Some, refl, sym, ap, ◌∙◌, subst, arith, map-append, list_any, list_all}
+use Rattle.eco_answers.proofs.Common.{is_lt, IsTrue, All, AllByRecursion, None, replicate, if◌then◌else◌, slice_index_or, take_more, recursion_from_All}
+use Rattle.eco_answers.proofs.Common.{choices, is_least_match, pattern_matches, id_cmp, is_ascending, QueryTerm, Id, Pattern, first, second, id_cmp_total, Slot}
+use Rattle.eco_answers.proofs.Common.{HasPositive, QuerySlot, exactly, has_any, matches_type, term_view, TableState, table_in, Standing, asked, asks}
+use Rattle.eco_answers.proofs.Common.{results_at, shown, AreFixed, Ascends, FitsQuery, IsFixed}
 use Rattle.std.specs.Cmp.{tied_itself}
-use Rattle.std.specs.List.{slice_index_or}
-use Rattle.std.proofs.lemmas.List.{take_more}
-use Rattle.std.proofs.lemmas.List.Elements.{recursion_from_All}
-use Rattle.eco_ids.specs.Answer as answers
-use Rattle.eco_ids.specs.Answer.{choices, is_least_match}
-use Rattle.eco_ids.specs.Matching.{pattern_matches}
-use Rattle.eco_ids.specs.Order.{id_cmp, is_ascending}
-use Rattle.eco_ids.specs.Terms as terms
-use Rattle.eco_ids.specs.Terms.{QueryTerm}
-use Rattle.eco_ids.specs.declared.id.Id.{Id}
 use Rattle.eco_ids.specs.declared.id.Id.TheVariants.{One, Two}
-use Rattle.eco_ids.specs.declared.pattern.Pattern.{Pattern}
-use Rattle.eco_ids.proofs.Ascending.{first, second}
-use Rattle.eco_ids.proofs.IdOrder.{id_cmp_total}
 use Rattle.eco_ids.proofs.Overlaps.{entity_eq_is}
-use Rattle.eco_query.specs.declared.slot.Slot.{Slot}
-use Rattle.eco_query.specs.Queries.{HasPositive, QuerySlot, exactly, has_any, matches_type, term_view}
-use Rattle.eco_tables.specs.Table.{TableState}
-use Rattle.eco_tables.specs.Tables.{table_in}
-use Rattle.eco_store.specs.declared.standing.Standing.{Standing}
-use Rattle.eco_answers.specs.Answers.{asked, asks}
-use Rattle.eco_answers.specs.Blocks.{results_at, shown}
-use Rattle.eco_answers.specs.Fixed.{AreFixed, Ascends, FitsQuery, IsFixed}
+use Rattle.eco_ids.specs.Answer as answers
+use Rattle.eco_ids.specs.Terms as terms
 
 -- ---- the entry of a slot
 

@@ -1,30 +1,17 @@
 -- A type that fulfils all slots has an id for each that asks for something to be there.
-use Rattle.eco_ids.proofs.Common.{◌≡◌, ℕ, zero, suc, ◌+◌, ◌<◌, nat_eq, nat_tests, Bool, true, false, true≢false, cond, ◌&&◌, ◌||◌, IsTrue, List, [], ◌∷◌, map}
-use Rattle.eco_ids.proofs.Common.{filter, length}
-use Rattle.eco_ids.proofs.Common.{slice_get, length-map, none-some, same_Some, option_copied}
-use Rattle.std.proofs.Common.{Bor}
-use Rattle.eco_ids.proofs.Common.{Option, Some, None, refl, sym, ap, ◌∙◌, subst, arith, list_any, option_to_list}
-use Rattle.eco_ids.proofs.Common.{AllByRecursion, has_item, id_cmp, pattern_matches, is_least_match, same_filling, is_le, is_lt, ordering_reverse, not, ◌⊎◌}
-use Rattle.eco_ids.proofs.Common.{inl, inr}
-use Rattle.std.specs.Prelude.{find}
-use Rattle.std.proofs.lemmas.List.Elements.{All-from_recursion}
-use Rattle.eco_ids.specs.Terms.{QueryTerm, And, Not, Optional, Or}
-use Rattle.eco_ids.specs.declared.id.Id.{Id}
-use Rattle.eco_ids.specs.declared.id.Id.TheVariants as id
-use Rattle.eco_ids.specs.Order.{entity_eq, id_eq}
-use Rattle.eco_ids.specs.declared.pattern.Pattern.{Pattern}
-use Rattle.eco_ids.proofs.Ascending.{both, first, less, second}
+use Rattle.eco_answers.proofs.Common.{◌≡◌, ℕ, zero, suc, ◌+◌, ◌<◌, nat_eq, nat_tests, Bool, true, false, true≢false, cond, ◌&&◌, ◌||◌}
+use Rattle.eco_answers.proofs.Common.{IsTrue, List, [], ◌∷◌, map, filter, length, slice_get, length-map, none-some, same_Some, option_copied, Bor, Option}
+use Rattle.eco_answers.proofs.Common.{Some, None, refl, sym, ap, ◌∙◌, subst, arith, list_any, option_to_list, AllByRecursion, has_item, id_cmp}
+use Rattle.eco_answers.proofs.Common.{pattern_matches, is_least_match, same_filling, is_le, is_lt, ordering_reverse, not, ◌⊎◌, inl, inr, find}
+use Rattle.eco_answers.proofs.Common.{All-from_recursion, QueryTerm, And, Not, Optional, Or, Id, entity_eq, id_eq, Pattern, both, first, less, second}
+use Rattle.eco_answers.proofs.Common.{id_cmp_total, same_id, Slot, QuerySlot, exactly, has_any, holds, is_positive, matches_type, patterns_of, slot_view}
+use Rattle.eco_answers.proofs.Common.{term_view, AreNeeded, group_at, type_matches_one, asked, asks, groups_of, number_after, others_hold}
 use Rattle.eco_ids.proofs.Facts.{any_is, id_eq_is, id_eq_itself, or_left, or_right}
-use Rattle.eco_ids.proofs.IdOrder.{id_cmp_total, same_id}
 use Rattle.eco_ids.proofs.Listable.{IsLeastOf, decide_bool, item_in, least_of}
 use Rattle.eco_ids.proofs.Overlaps.{entity_eq_is, entity_eq_itself}
-use Rattle.eco_query.specs.declared.slot.Slot.{Slot}
-use Rattle.eco_query.specs.Queries.{QuerySlot, exactly, has_any, holds, is_positive, matches_type, patterns_of, slot_view, term_view}
 use Rattle.eco_index.specs.IdIndex.{any_matches}
-use Rattle.eco_index.specs.TypeTests.{AreNeeded, group_at, type_matches_one}
-use Rattle.eco_answers.specs.Answers.{asked, asks}
 use Rattle.eco_answers.proofs.Answered.{asks_asked}
-use Rattle.eco_answers.specs.Groups.{groups_of, number_after, others_hold}
+use Rattle.eco_ids.specs.declared.id.Id.TheVariants as id
 
 -- there is one of those that pass where some item passes
 any-filter : {X Y : Type 0} (f : X → Y) (p : X → Bool) (xs : List X) → has_any (map f (filter p xs)) ≡ list_any p xs

@@ -1,3 +1,4 @@
+pub mod Common
 pub mod Answered
 pub mod Blocked
 pub mod FixedEntries

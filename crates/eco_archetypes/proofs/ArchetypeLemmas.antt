@@ -1,25 +1,10 @@
 -- Tables are found exactly after a table was made, dropped or its rows changed.
-use Rattle.std.proofs.Common.{◌≡◌, ◌≢◌, ℕ, ◌<◌, Bool, true, false, cond, ◌&&◌, List, [], ◌∷◌, length, slice_get, Option, Some, None, option_map, unwrap_or}
-use Rattle.std.proofs.Common.{IsSome, nat_eq, refl, sym, ap, ◌∙◌, inl, inr, is_some}
-use Rattle.std.specs.HashMap.{HashMap, get}
-use Rattle.std.specs.Map.{lookup}
-use Rattle.std.proofs.lemmas.Bool.{cases_eq}
-use Rattle.std.proofs.lemmas.Bool.Decides.{Decides-eqb}
-use Rattle.eco_ids.specs.declared.pattern.Pattern.{Pattern}
-use Rattle.eco_ids.specs.declared.id.Id.{Id}
-use Rattle.eco_tables.specs.Table.{TableState, TableRow}
-use Rattle.eco_tables.specs.Tables.{slot_of, table_in, no_table, SetsSlot, Moves, MovesAll, rowless, rowless_type}
-use Rattle.eco_tables.proofs.Slots.{room_some, row_some}
-use Rattle.eco_index.specs.TypeMap.{LeadAlike, IsTypeMap, same_ids}
-use Rattle.eco_index.specs.IdIndex.{Lists, any_matches, Turns}
-use Rattle.eco_index.specs.Edges.{toggled, Cuts, Links, SameEdges}
-use Rattle.eco_caches.specs.Caching.{AreExact, AreTold, ChangesType, StayExact}
-use Rattle.eco_caches.specs.declared.cache.Cache.{Cache}
-use Rattle.eco_caches.proofs.Caching.{exact_types}
-use Rattle.eco_index.proofs.Graphs.{graph_made, graph_cut, graph_linked}
-use Rattle.eco_index.proofs.TypeMaps.{type_map-insert, type_map-remove}
-use Rattle.eco_archetypes.specs.Archetypes.{type_at, type_matches, IsIdIndex, IsArchetypes, SameSlots, SameRows}
-use Rattle.eco_archetypes.specs.Widths.{AreAgreed}
+use Rattle.eco_archetypes.proofs.Common.{◌≡◌, ◌≢◌, ℕ, ◌<◌, Bool, true, false, cond, ◌&&◌, List, [], ◌∷◌, length, slice_get, Option}
+use Rattle.eco_archetypes.proofs.Common.{Some, None, option_map, unwrap_or, IsSome, nat_eq, refl, sym, ap, ◌∙◌, inl, inr, is_some, HashMap, get, lookup}
+use Rattle.eco_archetypes.proofs.Common.{cases_eq, Decides-eqb, Pattern, Id, TableState, TableRow, slot_of, table_in, no_table, SetsSlot, Moves, MovesAll}
+use Rattle.eco_archetypes.proofs.Common.{rowless, rowless_type, room_some, row_some, LeadAlike, IsTypeMap, same_ids, Lists, any_matches, Turns, toggled, Cuts}
+use Rattle.eco_archetypes.proofs.Common.{Links, SameEdges, AreExact, AreTold, ChangesType, StayExact, Cache, exact_types, graph_made, graph_cut, graph_linked}
+use Rattle.eco_archetypes.proofs.Common.{type_map-insert, type_map-remove, type_at, type_matches, IsIdIndex, IsArchetypes, SameSlots, SameRows, AreAgreed}
 use Rattle.eco_archetypes.proofs.Widths.{kept_agreed, kinds, sets_kept}
 
 -- a slot whose table has a row, or room, has a table

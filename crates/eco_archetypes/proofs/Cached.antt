@@ -1,19 +1,10 @@
 -- What the slots of a cache find.
-use Rattle.std.proofs.Common.{◌≡◌, ℕ, ◌+◌, Bool, true, false, true≢false, cond, ◌&&◌, ◌||◌, nat_eq, nat_lt, List, [], ◌∷◌, length}
-use Rattle.std.proofs.Common.{filter, take, Option, Some, None}
-use Rattle.std.proofs.Common.{option_map, unwrap_or, IsTrue, IfSome, Result, Ok, Err, IfOk, OnErr, refl, sym, ap, ◌∙◌, arith}
-use Rattle.std.specs.List.{list_any, IsDistinct}
-use Rattle.std.proofs.lemmas.Bool.Decides.{Decides-eqb}
-use Rattle.std.proofs.lemmas.Map.Views.{any-filter_same}
-use Rattle.eco_ids.specs.declared.id.Id.{Id}
-use Rattle.eco_ids.proofs.Ascending.{both}
-use Rattle.eco_ids.proofs.Facts.{or_left, or_right}
-use Rattle.eco_query.specs.Queries.{QuerySlot, matches_type}
-use Rattle.eco_tables.specs.Table.{TableState}
-use Rattle.eco_tables.specs.Tables.{slot_of, no_table}
-use Rattle.eco_caches.specs.Caching.{AreThose, fulfils}
+use Rattle.eco_archetypes.proofs.Common.{◌≡◌, ℕ, ◌+◌, Bool, true, false, true≢false, cond, ◌&&◌, ◌||◌, nat_eq, nat_lt, List, []}
+use Rattle.eco_archetypes.proofs.Common.{◌∷◌, length, filter, take, Option, Some, None, option_map, unwrap_or, IsTrue, IfSome, Result, Ok, Err, IfOk}
+use Rattle.eco_archetypes.proofs.Common.{OnErr, refl, sym, ap, ◌∙◌, arith, list_any, IsDistinct, Decides-eqb, any-filter_same, Id, both, or_left}
+use Rattle.eco_archetypes.proofs.Common.{or_right, QuerySlot, matches_type, TableState, slot_of, no_table, AreThose, fulfils, type_at, passes_at, has_rows}
+use Rattle.eco_archetypes.proofs.Common.{is_found_by, ArePassing, FindsSome, IsAllFound}
 use Rattle.eco_index.proofs.Listings.{distinct_filtered}
-use Rattle.eco_archetypes.specs.Archetypes.{type_at, passes_at, has_rows, is_found_by, ArePassing, FindsSome, IsAllFound}
 use Rattle.eco_archetypes.proofs.Copying.{taken_more, taken_past}
 
 abbrev Slots : Type 0

@@ -1,15 +1,9 @@
 -- The tables up to a slot, and what they are found by.
-use Rattle.std.proofs.Common.{◌≡◌, ◌≢◌, ℕ, zero, suc, cond, ◌+◌, ◌<◌, ◌≤◌, List, [], ◌∷◌, take, slice_get, Option, Some, None, option_map, unwrap_or}
-use Rattle.std.proofs.Common.{is_some, refl, sym, ap, ◌∙◌, arith, inl, inr}
-use Rattle.std.specs.HashMap.{HashMap, get}
-use Rattle.std.proofs.lemmas.Bool.{cases_eq, cases_lt}
-use Rattle.eco_ids.specs.declared.id.Id.{Id}
-use Rattle.eco_tables.specs.Table.{TableState, TableRow}
-use Rattle.eco_tables.specs.Tables.{slot_of, no_table, with_room, without_room, rowless, rowless_type, SetsSlot, AreCopies}
-use Rattle.eco_index.specs.IdIndex.{Lists, ListsSame}
-use Rattle.eco_index.specs.TypeMap.{same_ids, IsTypeMap}
-use Rattle.eco_index.proofs.TypeMaps.{type_map-insert}
-use Rattle.eco_archetypes.specs.Archetypes.{type_at, type_matches, IsIdIndex, RowlessIn, SameRows}
+use Rattle.eco_archetypes.proofs.Common.{◌≡◌, ◌≢◌, ℕ, zero, suc, cond, ◌+◌, ◌<◌, ◌≤◌, List, [], ◌∷◌, take, slice_get, Option}
+use Rattle.eco_archetypes.proofs.Common.{Some, None, option_map, unwrap_or, is_some, refl, sym, ap, ◌∙◌, arith, inl, inr, HashMap, get, cases_eq}
+use Rattle.eco_archetypes.proofs.Common.{cases_lt, Id, TableState, TableRow, slot_of, no_table, with_room, without_room, rowless, rowless_type, SetsSlot}
+use Rattle.eco_archetypes.proofs.Common.{AreCopies, Lists, ListsSame, same_ids, IsTypeMap, type_map-insert, type_at, type_matches, IsIdIndex, RowlessIn}
+use Rattle.eco_archetypes.proofs.Common.{SameRows}
 use Rattle.eco_archetypes.proofs.Widths.{AreKept, kinds}
 
 abbrev Slots : Type 0

@@ -1,19 +1,10 @@
 -- One id in the place of another.
-use Rattle.std.proofs.Common.{◌≡◌, ◌≢◌, ℕ, ◌+◌, ◌++◌, true≢false, ◌&&◌, ◌||◌, not, Bool, true, false, cond, List, Option, Some, take, drop, remove}
-use Rattle.std.proofs.Common.{IsTrue, slice_get, get_or, suc, Ordering, Less, Equal, Greater, refl, sym, ap, ◌∙◌, arith}
-use Rattle.std.proofs.lemmas.Option.{same_Some, slice_get_within, slice_get-get_or}
+use Rattle.eco_archetypes.proofs.Common.{◌≡◌, ◌≢◌, ℕ, ◌+◌, ◌++◌, true≢false, ◌&&◌, ◌||◌, not, Bool, true, false, cond, List}
+use Rattle.eco_archetypes.proofs.Common.{Option, Some, take, drop, remove, IsTrue, slice_get, get_or, suc, Ordering, Less, Equal, Greater, refl, sym, ap}
+use Rattle.eco_archetypes.proofs.Common.{◌∙◌, arith, same_Some, slice_get_within, slice_get-get_or, is_eq, Id, id_cmp, id_eq, has_item, with_item}
+use Rattle.eco_archetypes.proofs.Common.{without_item, is_ascending, has_at, remove_is_without, id_eq_itself, id_cmp_total, joins_with, leaves_without}
+use Rattle.eco_archetypes.proofs.Common.{TableState, exchanged, toggled, twice, type_at}
 use Rattle.std.specs.Prelude.{HoldsAt}
-use Rattle.std.specs.Ordering.{is_eq}
-use Rattle.eco_ids.specs.declared.id.Id.{Id}
-use Rattle.eco_ids.specs.Order.{id_cmp, id_eq, has_item, with_item, without_item, is_ascending}
-use Rattle.eco_ids.proofs.Ascending.{has_at, remove_is_without}
-use Rattle.eco_ids.proofs.Facts.{id_eq_itself}
-use Rattle.eco_ids.proofs.IdOrder.{id_cmp_total}
-use Rattle.eco_ids.proofs.SetLaws.{joins_with, leaves_without}
-use Rattle.eco_tables.specs.Table.{TableState}
-use Rattle.eco_index.specs.Edges.{exchanged, toggled}
-use Rattle.eco_index.proofs.Toggles.{twice}
-use Rattle.eco_archetypes.specs.Archetypes.{type_at}
 
 -- the second id is there then
 comes : (ids : List Id) (i j : Id) → has_item id_cmp (exchanged ids i j) j ≡ true

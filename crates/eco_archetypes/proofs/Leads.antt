@@ -1,17 +1,7 @@
 -- Where the edge of an id leads.
-use Rattle.std.proofs.Common.{◌≡◌, ◌≢◌, ℕ, List, Option, Some, None, IsSome, IsTrue, Result, Ok, Err, IfOk, OnOk, OnErr, refl}
-use Rattle.std.proofs.Common.{sym, ap, subst, ◌∙◌}
-use Rattle.std.specs.HashMap.{HashMap}
-use Rattle.std.proofs.lemmas.Option.{same_Some}
-use Rattle.eco_ids.specs.declared.id.Id.{Id}
-use Rattle.eco_ids.specs.Order.{id_cmp, is_ascending}
-use Rattle.eco_tables.specs.Table.{TableState}
-use Rattle.eco_tables.specs.Tables.{slot_of, table_in}
-use Rattle.eco_index.specs.IdIndex.{Lists}
-use Rattle.eco_caches.specs.declared.cache.Cache.{Cache}
-use Rattle.eco_index.specs.Edges.{edge, toggled, IsGraph, IsTwofold, Links, SameEdges}
-use Rattle.eco_index.proofs.Toggles.{toggled_other, twice}
-use Rattle.eco_archetypes.specs.Archetypes.{type_at, IsArchetypes}
+use Rattle.eco_archetypes.proofs.Common.{◌≡◌, ◌≢◌, ℕ, List, Option, Some, None, IsSome, IsTrue, Result, Ok, Err, IfOk, OnOk, OnErr, refl, sym, ap}
+use Rattle.eco_archetypes.proofs.Common.{subst, ◌∙◌, HashMap, same_Some, Id, id_cmp, is_ascending, TableState, slot_of, table_in, Lists, Cache, edge}
+use Rattle.eco_archetypes.proofs.Common.{toggled, IsGraph, IsTwofold, Links, SameEdges, toggled_other, twice, type_at, IsArchetypes}
 use Rattle.eco_archetypes.proofs.ArchetypeLemmas.{found_linked, found_unlinked, one_slot, type_there, there_as_typed, typed_table}
 
 some_none : {X P : Type 0} (x : X) → Some x ≡ None → P

@@ -1,3 +1,4 @@
+pub mod Common
 pub mod ArchetypeLemmas
 pub mod Cached
 pub mod Copying

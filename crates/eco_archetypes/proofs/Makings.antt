@@ -1,14 +1,8 @@
 -- What holds after a table was made in a slot that was empty, got other room, and was dropped again.
-use Rattle.std.proofs.Common.{◌≡◌, ◌≢◌, ◌||◌, ℕ, List, ◌∷◌, Option, None, Some, OnSome, IfNone, IsSome, option_map, unwrap_or, is_some, nat_eq}
-use Rattle.std.proofs.Common.{refl, subst, sym, ap, ◌∙◌, inl, inr}
-use Rattle.std.specs.List.{list_any}
-use Rattle.std.proofs.lemmas.Bool.{cases_eq}
-use Rattle.std.proofs.lemmas.Bool.Decides.{Decides-eqb}
-use Rattle.eco_ids.specs.declared.id.Id.{Id}
+use Rattle.eco_archetypes.proofs.Common.{◌≡◌, ◌≢◌, ◌||◌, ℕ, List, ◌∷◌, Option, None, Some, OnSome, IfNone, IsSome, option_map}
+use Rattle.eco_archetypes.proofs.Common.{unwrap_or, is_some, nat_eq, refl, subst, sym, ap, ◌∙◌, inl, inr, list_any, cases_eq, Decides-eqb, Id, TableState}
+use Rattle.eco_archetypes.proofs.Common.{empty_table, slot_of, no_table, rowless_type, SetsSlot, SetsRoom, type_at, KeepsTypes, RowlessIn, SameRows, SameSlots}
 use Rattle.eco_ids.proofs.Lists.{not_equal}
-use Rattle.eco_tables.specs.Table.{TableState, empty_table}
-use Rattle.eco_tables.specs.Tables.{slot_of, no_table, rowless_type, SetsSlot, SetsRoom}
-use Rattle.eco_archetypes.specs.Archetypes.{type_at, KeepsTypes, RowlessIn, SameRows, SameSlots}
 use Rattle.eco_archetypes.proofs.ArchetypeLemmas.{same_rows, sets_types}
 
 module _ (s s' : List (Option TableState)) (n : ℕ) (slots : List ℕ) (slot : Option TableState) (sets : SetsSlot s s' n slot) where

@@ -1,20 +1,11 @@
 -- Whom the types of tables name.
-use Rattle.std.proofs.Common.{◌≡◌, ℕ, zero, suc, Bool, true, false, ◌↔◌, inl, inr, List, [], ◌∷◌, nat_lt, length, Option, Some, None}
-use Rattle.std.proofs.Common.{option_map, refl, sym, ◌∙◌, true≢false, IsTrue}
-use Rattle.std.specs.List.{list_any}
-use Rattle.std.proofs.lemmas.Bool.{false_from_ne_true, or_left}
+use Rattle.eco_archetypes.proofs.Common.{◌≡◌, ℕ, zero, suc, Bool, true, false, ◌↔◌, inl, inr, List, [], ◌∷◌, nat_lt, length, Option, Some}
+use Rattle.eco_archetypes.proofs.Common.{None, option_map, refl, sym, ◌∙◌, true≢false, IsTrue, list_any, false_from_ne_true, Id, second, or_parts}
+use Rattle.eco_archetypes.proofs.Common.{or_right, TableState, slot_of, Lists, type_names, naming, names_match, same_truth, IsIdIndex, has_one_of, is_found_by}
+use Rattle.eco_archetypes.proofs.Common.{type_at, is_named_by_some, names_in}
+use Rattle.std.proofs.lemmas.Bool.{or_left}
 use Rattle.eco_ids.specs.declared.entity.Entity.{Entity}
-use Rattle.eco_ids.specs.declared.id.Id.{Id}
-use Rattle.eco_ids.proofs.Ascending.{second}
-use Rattle.eco_ids.proofs.Facts.{or_parts, or_right}
-use Rattle.eco_tables.specs.Table.{TableState}
-use Rattle.eco_tables.specs.Tables.{slot_of}
-use Rattle.eco_index.specs.IdIndex.{Lists}
 use Rattle.eco_index.specs.Naming.{ListsSome}
-use Rattle.eco_index.specs.TypeTests.{type_names, naming}
-use Rattle.eco_index.proofs.TypeTests.{names_match, same_truth}
-use Rattle.eco_archetypes.specs.Archetypes.{IsIdIndex, has_one_of, is_found_by, type_at}
-use Rattle.eco_archetypes.specs.Naming.{is_named_by_some, names_in}
 
 -- ---- types that name
 

@@ -1,22 +1,12 @@
 -- How wide an id is in the tables that have it.
-use Rattle.std.proofs.Common.{◌≡◌, ◌≤◌, ℕ, Bool, true, false, true≢false, cond, ◌||◌, IsTrue, IsSome, List, [], ◌∷◌, Option, None, Some, unwrap_or}
-use Rattle.std.proofs.Common.{option_map, refl, sym, ap, ◌∙◌, arith}
-use Rattle.std.specs.FinMap.Entries.{find}
-use Rattle.std.specs.List.{list_any}
-use Rattle.eco_ids.specs.declared.id.Id.{Id}
-use Rattle.eco_ids.specs.declared.id.Id.TheVariants as id
+use Rattle.eco_archetypes.proofs.Common.{◌≡◌, ◌≤◌, ℕ, Bool, true, false, true≢false, cond, ◌||◌, IsTrue, IsSome, List, [], ◌∷◌}
+use Rattle.eco_archetypes.proofs.Common.{Option, None, Some, unwrap_or, option_map, refl, sym, ap, ◌∙◌, arith, find, list_any, Id, id_cmp, id_eq}
+use Rattle.eco_archetypes.proofs.Common.{has_item, id_eq_sym, or_right, TableState, paired, width_in, slot_of, table_in, no_table, exactly, any_matches}
+use Rattle.eco_archetypes.proofs.Common.{type_at, type_matches, AreAgreed, IsWidth}
 use Rattle.eco_ids.specs.declared.value.TheConstants.{FIELD_COUNT}
 use Rattle.eco_ids.specs.Matching.{pattern_matches}
-use Rattle.eco_ids.specs.Order.{id_cmp, id_eq, has_item}
-use Rattle.eco_ids.proofs.Exact.{id_eq_sym}
-use Rattle.eco_ids.proofs.Facts.{or_right}
 use Rattle.eco_ids.proofs.Pairs.{parts_are_same}
-use Rattle.eco_tables.specs.Table.{TableState, paired, width_in}
-use Rattle.eco_tables.specs.Tables.{slot_of, table_in, no_table}
-use Rattle.eco_query.specs.Queries.{exactly}
-use Rattle.eco_index.specs.IdIndex.{any_matches}
-use Rattle.eco_archetypes.specs.Archetypes.{type_at, type_matches}
-use Rattle.eco_archetypes.specs.Widths.{AreAgreed, IsWidth}
+use Rattle.eco_ids.specs.declared.id.Id.TheVariants as id
 
 matches_exactly : (i j : Id) → pattern_matches (exactly i) j ≡ id_eq i j
 matches_exactly (id.One e) (id.One x) = refl

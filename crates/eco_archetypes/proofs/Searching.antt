@@ -1,24 +1,13 @@
 -- What a search by a test of types finds.
-use Rattle.std.proofs.Common.{◌≡◌, ℕ, zero, suc, ◌<◌, Bool, true, false, true≢false, ◌&&◌, ◌||◌, not, nat_eq, nat_lt, List, [], ◌∷◌, ◌++◌, length, filter}
-use Rattle.std.proofs.Common.{get_or, slice_get, Option, Some, None, option_map, refl, sym, ap, ◌∙◌, arith, add-one, ◌+◌, take}
-use Rattle.std.specs.List.{All, list_any, IsDistinct}
+use Rattle.eco_archetypes.proofs.Common.{◌≡◌, ℕ, zero, suc, ◌<◌, Bool, true, false, true≢false, ◌&&◌, ◌||◌, not, nat_eq, nat_lt, List, []}
+use Rattle.eco_archetypes.proofs.Common.{◌∷◌, ◌++◌, length, filter, get_or, slice_get, Option, Some, None, option_map, refl, sym, ap, ◌∙◌}
+use Rattle.eco_archetypes.proofs.Common.{arith, add-one, ◌+◌, take, All, list_any, IsDistinct, Decides-eqb, any-filter_same, list_any-append}
+use Rattle.eco_archetypes.proofs.Common.{get_or_from_slice_get, same_Some, Id, Pattern, both, first, second, any_is, or_right, TableState, slot_of, AreNeeded}
+use Rattle.eco_archetypes.proofs.Common.{group_at, type_matches_one, passes_with, passes_without, any_matches, same_truth, type_at, type_matches, has_one_of}
+use Rattle.eco_archetypes.proofs.Common.{is_found_by, is_found_in, FindsSome, IsAllFound}
 use Rattle.std.proofs.Math.Seq.{take-length, take-suc}
-use Rattle.std.proofs.lemmas.Bool.Decides.{Decides-eqb}
-use Rattle.std.proofs.lemmas.Map.Views.{any-filter_same}
-use Rattle.std.proofs.lemmas.List.Folds.{list_any-append}
-use Rattle.std.proofs.lemmas.Option.{get_or_from_slice_get, same_Some}
-use Rattle.eco_ids.specs.declared.id.Id.{Id}
-use Rattle.eco_ids.specs.declared.pattern.Pattern.{Pattern}
-use Rattle.eco_ids.proofs.Ascending.{both, first, second}
-use Rattle.eco_ids.proofs.Facts.{any_is, or_right}
-use Rattle.eco_tables.specs.Table.{TableState}
-use Rattle.eco_tables.specs.Tables.{slot_of}
-use Rattle.eco_index.specs.TypeTests.{AreNeeded, group_at, type_matches_one, passes_with, passes_without}
-use Rattle.eco_index.specs.IdIndex.{any_matches}
 use Rattle.eco_index.proofs.Keys.{and_true, or_false}
-use Rattle.eco_index.proofs.TypeTests.{same_truth}
 use Rattle.eco_index.proofs.Listings.{any_weaker, distinct_filtered, distinct_joined, distinct_none, listed_at}
-use Rattle.eco_archetypes.specs.Archetypes.{type_at, type_matches, has_one_of, is_found_by, is_found_in, FindsSome, IsAllFound}
 
 -- ---- one table
 

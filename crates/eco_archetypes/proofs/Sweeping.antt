@@ -1,25 +1,12 @@
 -- What is left, and found, where many tables went.
-use Rattle.std.proofs.Common.{◌≡◌, ℕ, ◌&&◌, ◌||◌, Bool, true, false, cond, List, [], ◌∷◌, ◌++◌, IfNone, nat_eq, true≢false}
-use Rattle.std.proofs.Common.{OnSome, Option, Some, None, option_map, is_some, refl, sym, ap, ◌∙◌, inl, inr}
-use Rattle.std.specs.HashMap.{HashMap, get}
-use Rattle.std.specs.List.{list_any}
-use Rattle.std.proofs.lemmas.Bool.{cases_eq}
-use Rattle.std.proofs.lemmas.Bool.Decides.{Decides-eqb}
-use Rattle.std.proofs.lemmas.List.Folds.{list_any-append}
+use Rattle.eco_archetypes.proofs.Common.{◌≡◌, ℕ, ◌&&◌, ◌||◌, Bool, true, false, cond, List, [], ◌∷◌, ◌++◌, IfNone, nat_eq}
+use Rattle.eco_archetypes.proofs.Common.{true≢false, OnSome, Option, Some, None, option_map, is_some, refl, sym, ap, ◌∙◌, inl, inr, HashMap, get}
+use Rattle.eco_archetypes.proofs.Common.{list_any, cases_eq, Decides-eqb, list_any-append, Id, Pattern, TableState, slot_of, rowless_type, SetsSlot, Cache}
+use Rattle.eco_archetypes.proofs.Common.{AreExact, ChangesType, edge, toggled, Lists, same_ids, type_at, type_matches, is_rowless, IsArchetypes, SameSlots}
+use Rattle.eco_archetypes.proofs.Common.{has_table, DropsRowless, IsLess}
 use Rattle.eco_ids.proofs.Lists.{not_equal}
-use Rattle.eco_ids.specs.declared.id.Id.{Id}
-use Rattle.eco_ids.specs.declared.pattern.Pattern.{Pattern}
-use Rattle.eco_tables.specs.Table.{TableState}
-use Rattle.eco_tables.specs.Tables.{slot_of, rowless_type, SetsSlot}
-use Rattle.eco_caches.specs.declared.cache.Cache.{Cache}
-use Rattle.eco_caches.specs.Caching.{AreExact, ChangesType}
-use Rattle.eco_index.specs.Edges.{edge, toggled}
-use Rattle.eco_index.specs.IdIndex.{Lists}
 use Rattle.eco_index.specs.Sweeping.{kept_if, KeepsListed, KeepsEdges}
-use Rattle.eco_index.specs.TypeMap.{same_ids}
 use Rattle.eco_index.proofs.Sweeping.{kept_some, kept_stays}
-use Rattle.eco_archetypes.specs.Archetypes.{type_at, type_matches, is_rowless, IsArchetypes, SameSlots}
-use Rattle.eco_archetypes.specs.Sweeping.{has_table, DropsRowless, IsLess}
 use Rattle.eco_archetypes.proofs.ArchetypeLemmas.{changes_type}
 use Rattle.eco_archetypes.proofs.Widths.{AreKept, kept_agreed, kinds}
 

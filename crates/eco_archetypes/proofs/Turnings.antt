@@ -1,34 +1,15 @@
 -- A table has one id more or less, where it stands.
-use Rattle.std.proofs.Common.{◌≡◌, ◌≢◌, ℕ, ◌==◌, Bool, true, false, true≢false, cond, not, ◌&&◌, ◌||◌, if◌then◌else◌, List, [], ◌∷◌, map, Option, Some, None}
-use Rattle.std.proofs.Common.{option_map, unwrap_or, IsSome, IsTrue, Result, Ok, Err, IfOk}
-use Rattle.std.proofs.Common.{nat_eq, Less, Equal, Greater, refl, sym, ap, ◌∙◌, ◌≤◌, ◌⊎◌, inl, inr}
-use Rattle.std.specs.HashMap.{HashMap, Updates, get}
-use Rattle.std.specs.Map.{lookup}
-use Rattle.std.specs.FinMap.Entries.{find, by_order}
-use Rattle.std.proofs.lemmas.Bool.{cases_eq}
-use Rattle.std.proofs.lemmas.Option.{same_Some}
-use Rattle.std.proofs.lemmas.Bool.Decides.{Decides-eqb}
-use Rattle.eco_ids.specs.declared.id.Id.{Id}
-use Rattle.eco_ids.specs.declared.pattern.Pattern.{Pattern}
-use Rattle.eco_ids.specs.Order.{id_cmp, id_eq, has_item, is_ascending, with_item, without_item}
-use Rattle.eco_ids.proofs.Exact.{id_eq_sym}
-use Rattle.eco_ids.proofs.Facts.{equal_tie, or_right}
-use Rattle.eco_ids.proofs.IdOrder.{id_cmp_total, same_id}
+use Rattle.eco_archetypes.proofs.Common.{◌≡◌, ◌≢◌, ℕ, ◌==◌, Bool, true, false, true≢false, cond, not, ◌&&◌, ◌||◌}
+use Rattle.eco_archetypes.proofs.Common.{if◌then◌else◌, List, [], ◌∷◌, map, Option, Some, None, option_map, unwrap_or, IsSome, IsTrue, Result, Ok}
+use Rattle.eco_archetypes.proofs.Common.{Err, IfOk, nat_eq, Less, Equal, Greater, refl, sym, ap, ◌∙◌, ◌≤◌, ◌⊎◌, inl, inr, HashMap, Updates}
+use Rattle.eco_archetypes.proofs.Common.{get, lookup, find, by_order, cases_eq, same_Some, Decides-eqb, Id, Pattern, id_cmp, id_eq, has_item, is_ascending}
+use Rattle.eco_archetypes.proofs.Common.{with_item, without_item, id_eq_sym, equal_tie, or_right, id_cmp_total, same_id, joins_with, leaves_without, TableState}
+use Rattle.eco_archetypes.proofs.Common.{paired, width_in, slot_of, table_in, no_table, turned, SetsSlot, Cuts, Lists, any_matches, matches_id, is_own, Turns}
+use Rattle.eco_archetypes.proofs.Common.{ListsSame, AreTold, Cache, same_ids, IsTypeMap, LeadAlike, LeadsGrown, TakesGrown, lost_again, graph_cut, type_at}
+use Rattle.eco_archetypes.proofs.Common.{type_matches, IsArchetypes, IsIdIndex, TakesType, SameSlots, SomeHasType, AreAgreed, MeetsNeeds, KeepsWidths}
 use Rattle.eco_ids.specs.OrderLaws.{id_ties}
 use Rattle.eco_ids.proofs.SameIds.{id_eq-Decides, same_ids-Decides}
-use Rattle.eco_ids.proofs.SetLaws.{joins_with, leaves_without}
-use Rattle.eco_tables.specs.Table.{TableState, paired, width_in}
-use Rattle.eco_tables.specs.Tables.{slot_of, table_in, no_table, turned, SetsSlot}
-use Rattle.eco_index.specs.Edges.{Cuts}
-use Rattle.eco_index.specs.IdIndex.{Lists, any_matches, matches_id, is_own, Turns, ListsSame}
-use Rattle.eco_caches.specs.Caching.{AreTold}
-use Rattle.eco_caches.specs.declared.cache.Cache.{Cache}
-use Rattle.eco_index.specs.TypeMap.{same_ids, IsTypeMap, LeadAlike, LeadsGrown, TakesGrown}
-use Rattle.eco_index.proofs.Toggles.{lost_again}
-use Rattle.eco_index.proofs.Graphs.{graph_cut}
 use Rattle.eco_archetypes.proofs.ArchetypeLemmas.{index_turned}
-use Rattle.eco_archetypes.specs.Archetypes.{type_at, type_matches, IsArchetypes, IsIdIndex, TakesType, SameSlots, SomeHasType}
-use Rattle.eco_archetypes.specs.Widths.{AreAgreed, MeetsNeeds, KeepsWidths}
 use Rattle.eco_archetypes.proofs.Widths.{kept_agreed, kept_widths, same_kept}
 
 way : (b : Bool) (P : Type 0) → (b ≡ true → P) → (b ≡ false → P) → P

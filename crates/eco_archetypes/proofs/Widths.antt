@@ -1,28 +1,17 @@
 -- Tables keep what values may need, whatever is done to them.
-use Rattle.std.proofs.Common.{◌≡◌, ◌≢◌, ◌⊎◌, ◌++◌, ◌-◌, ◌≤◌, ◌<◌, ◌==◌, ◌&&◌, ℕ, zero, suc, ◌+◌, ℤ, pos, min, Bool, true, false, cond, IsTrue}
-use Rattle.std.proofs.Common.{List, [], ◌∷◌, length, replicate, take, drop, get_or, Option, None, Some, OnSome, IfNone, unwrap_or, refl, sym, ap, ◌∙◌, subst}
-use Rattle.std.proofs.Common.{arith, inl, inr, eqb-true}
-use Rattle.std.proofs.lemmas.Bool.{cases_eq}
-use Rattle.std.proofs.lemmas.List.{length-take, length-drop, take-append-drop, take_more}
+use Rattle.eco_archetypes.proofs.Common.{◌≡◌, ◌≢◌, ◌⊎◌, ◌++◌, ◌-◌, ◌≤◌, ◌<◌, ◌==◌, ◌&&◌, ℕ, zero, suc, ◌+◌}
+use Rattle.eco_archetypes.proofs.Common.{ℤ, pos, min, Bool, true, false, cond, IsTrue, List, [], ◌∷◌, length, replicate, take, drop, get_or, Option}
+use Rattle.eco_archetypes.proofs.Common.{None, Some, OnSome, IfNone, unwrap_or, refl, sym, ap, ◌∙◌, subst, arith, inl, inr, eqb-true, cases_eq}
+use Rattle.eco_archetypes.proofs.Common.{length-take, length-drop, take-append-drop, take_more, find, All, list_all, int_eq, Id, id_cmp, id_eq, first, second}
+use Rattle.eco_archetypes.proofs.Common.{equal_tie, id_eq_is, TableState, paired, FitsId, width_in, empty_table, slot_of, table_in, no_table, SetsSlot, Moves}
+use Rattle.eco_archetypes.proofs.Common.{MovesAll, need, SameSlots, AreAgreed, MeetsNeeds, KeepsWidths, IsWidth, AreWidths, FitsIn}
 use Rattle.std.proofs.lemmas.Map.Lookups.{exact_signed}
-use Rattle.std.specs.FinMap.Entries.{find}
-use Rattle.std.specs.List.{All, list_all}
-use Rattle.std.specs.Ordering.{int_eq}
-use Rattle.eco_ids.specs.declared.id.Id.{Id}
 use Rattle.eco_ids.specs.declared.value.Value.{Value}
 use Rattle.eco_ids.specs.declared.value.TheConstants.{FIELD_COUNT}
 use Rattle.eco_ids.specs.Data.{is_zero_past}
-use Rattle.eco_ids.specs.Order.{id_cmp, id_eq}
-use Rattle.eco_ids.proofs.Ascending.{first, second}
-use Rattle.eco_ids.proofs.Facts.{equal_tie, id_eq_is}
 use Rattle.eco_tables.specs.Column.{Fits}
-use Rattle.eco_tables.specs.Table.{TableState, paired, FitsId, width_in, empty_table}
-use Rattle.eco_tables.specs.Tables.{slot_of, table_in, no_table, SetsSlot, Moves, MovesAll}
-use Rattle.eco_entities.specs.Needs.{need}
 use Rattle.eco_entities.specs.Registration.{Registration}
 use Rattle.eco_ids.specs.Indices.{Indexed}
-use Rattle.eco_archetypes.specs.Archetypes.{SameSlots}
-use Rattle.eco_archetypes.specs.Widths.{AreAgreed, MeetsNeeds, KeepsWidths, IsWidth, AreWidths, FitsIn}
 
 -- ---- tables that keep their widths
 

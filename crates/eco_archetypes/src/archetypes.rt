@@ -1,5 +1,6 @@
 //! The tables of a store, one for each type, found by type and by the patterns that match its ids.
-ghost use Rattle.std.specs.Prelude.{◌≡◌, ◌≢◌, ◌↔◌, ◌&&◌, nat_lt, nat_eq, filter, List, ℕ, ◌<◌, ◌≤◌, ◌∷◌, [], length, ◌++◌};
+ghost use Rattle.std.specs.Prelude.{◌≡◌, ◌≢◌, ◌↔◌, ◌&&◌, nat_lt, nat_eq, filter, List, ℕ, ◌<◌, ◌≤◌, ◌∷◌, [], length};
+ghost use Rattle.std.specs.Prelude.{◌++◌};
 ghost use Rattle.std.specs.Prelude.{slice_get, Some, None, IsSome, IsTrue, IfOk, IfSome, IfNone, OnOk, OnErr, OnSome, is_some};
 ghost use Rattle.std.specs.List.{All, list_any, IsDistinct};
 ghost use Rattle.std.specs.FinMap.Entries.{find};

@@ -1,44 +1,29 @@
 -- What patterns bring, by the ids of their heads, and their closures.
-use Rattle.std.proofs.Common.{◌≡◌, ℕ, zero, suc, ◌<◌, ◌==◌, Bool, true, false, ◌||◌, ◌↔◌, ◌⊎◌}
-use Rattle.std.proofs.Common.{inl, inr, List, [], ◌∷◌, ◌++◌, map, flat_map, refl, sym, ap, ◌∙◌, subst}
-use Rattle.std.proofs.Common.{◌+◌, ◌^◌, if◌then◌else◌, append_assoc, get_or, length, take, IsTrue}
-use Rattle.std.proofs.Common.{true≢false, arith, Option, Some, None, option_map, option_to_list, slice_get}
-use Rattle.std.specs.List.{AllByRecursion, list_any}
+use Rattle.eco_batches.proofs.Common.{◌≡◌, ℕ, zero, suc, ◌<◌, ◌==◌, Bool, true, false, ◌||◌, ◌↔◌, ◌⊎◌, inl, inr, List, []}
+use Rattle.eco_batches.proofs.Common.{◌∷◌, ◌++◌, map, flat_map, refl, sym, ap, ◌∙◌, subst, ◌+◌, ◌^◌, if◌then◌else◌, append_assoc}
+use Rattle.eco_batches.proofs.Common.{get_or, length, take, IsTrue, true≢false, arith, Option, Some, None, option_map, option_to_list, slice_get}
+use Rattle.eco_batches.proofs.Common.{AllByRecursion, list_any, map-append, take_more, same_Some, none-some, neither, Entity, Id, Part, Is, Each, Any, Pattern}
+use Rattle.eco_batches.proofs.Common.{One, Two, WorldState, Record, has, record_of, id_eq_is, id_eq_itself, entity_eq_is, entity_eq_itself, pattern_head}
+use Rattle.eco_batches.proofs.Common.{pattern_with_head, BringsPattern, InClosedPatterns, some_left, some_right, AreClosed, HasKnownTarget, brought, brought_by}
+use Rattle.eco_batches.proofs.Common.{ids_in, pattern_key, keys_by, known_keys, key_pattern, targets_below, Key}
 use Rattle.std.proofs.lemmas.Bool.{cases_eq}
 use Rattle.std.proofs.lemmas.Grind.{flat_map-append}
-use Rattle.std.proofs.lemmas.List.{map-append, take_more}
-use Rattle.std.proofs.lemmas.Option.{same_Some, none-some}
-use Rattle.eco_ids.proofs.Facts.{neither}
-use Rattle.eco_ids.specs.declared.entity.Entity.{Entity}
 use Rattle.eco_ids.specs.declared.entity.TheConstants.{WITH}
-use Rattle.eco_ids.specs.declared.id.Id.{Id}
-use Rattle.eco_ids.specs.declared.id.Id.TheVariants as id
-use Rattle.eco_ids.specs.declared.pattern.Part.{Part}
-use Rattle.eco_ids.specs.declared.pattern.Part.TheVariants.{Is, Each, Any}
-use Rattle.eco_ids.specs.declared.pattern.Pattern.{Pattern}
-use Rattle.eco_ids.specs.declared.pattern.Pattern.TheVariants.{One, Two}
 use Rattle.eco_ids.specs.Indices.{IndexState, Retired, Free, Living, record_in}
 use Rattle.eco_ids.specs.Least.{root, next}
 use Rattle.eco_ids.specs.Order.{entity_eq, has_item, id_cmp, id_eq}
-use Rattle.eco_ids.specs.World.{WorldState, Record, has, record_of}
 use Rattle.eco_ids.proofs.Exact.{keys, keys_find}
-use Rattle.eco_ids.proofs.Facts.{id_eq_is, id_eq_itself}
 use Rattle.eco_ids.proofs.Keeps.{has_in}
-use Rattle.eco_ids.proofs.Overlaps.{entity_eq_is, entity_eq_itself}
-use Rattle.eco_systems.specs.Closing.{pattern_head, pattern_with_head}
-use Rattle.eco_systems.specs.Writes.{BringsPattern, InClosedPatterns}
 use Rattle.eco_systems.proofs.ClosedLists.{brought_head, one_brings, own_head, wild_brings}
-use Rattle.eco_systems.proofs.Lists.{some_left, some_right}
 use Rattle.eco_ids.specs.Mirrors.{is_with}
 use Rattle.eco_traits.specs.Target.{type_of_record}
 use Rattle.eco_search.specs.Search.{Appends, Covers, IsInLeast, IsLeastSet, is_among}
-use Rattle.eco_batches.specs.Brought.{AreClosed, HasKnownTarget, below, brought, brought_by}
-use Rattle.eco_batches.specs.Brought.{ids_in, pattern_key, keys_by, known_keys, key_pattern, targets_below}
+use Rattle.eco_batches.specs.Brought.{below}
 use Rattle.eco_batches.specs.KeyLaws.{same_keys}
-use Rattle.eco_batches.specs.declared.key.Key.{Key}
-use Rattle.eco_batches.specs.contracts.key.KeyPartialEq.TheImpl as key_eq
 use Rattle.eco_batches.proofs.Members.{Member, from_flat, from_map, in_flat, in_map, in_parts, passes, passing}
 use Rattle.eco_batches.proofs.Patterns.{pattern_eq-Decides}
+use Rattle.eco_ids.specs.declared.id.Id.TheVariants as id
+use Rattle.eco_batches.specs.contracts.key.KeyPartialEq.TheImpl as key_eq
 
 abbrev pub Brings : WorldState → Key → Key → Type 0
 Brings w a b = BringsPattern w a.pattern b.pattern

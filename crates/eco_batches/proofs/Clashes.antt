@@ -1,25 +1,15 @@
 -- Two outlines clash exactly where their systems conflict.
-use Rattle.std.proofs.Common.{◌≡◌, ℕ, zero, suc, ◌==◌, Bool, false, ◌||◌, ◌↔◌, List, [], ◌∷◌, ◌++◌, map, length, refl, sym, ap, ◌∙◌, subst}
-use Rattle.std.proofs.Common.{true≢false, IsTrue, Option, Some, None, slice_get, arith, eqb-true}
-use Rattle.std.specs.List.{AllZip, list_any}
+use Rattle.eco_batches.proofs.Common.{◌≡◌, ℕ, zero, suc, ◌==◌, Bool, false, ◌||◌, ◌↔◌, List, [], ◌∷◌, ◌++◌, map, length, refl}
+use Rattle.eco_batches.proofs.Common.{sym, ap, ◌∙◌, subst, true≢false, IsTrue, Option, Some, None, slice_get, arith, eqb-true, AllZip, list_any}
+use Rattle.eco_batches.proofs.Common.{map-append, same_Some, none-some, some_exact, pattern_overlaps, WorldState, batched, in_order, order_of, SomeOf}
+use Rattle.eco_batches.proofs.Common.{IsTraitWriter, writes_trait, OutlineModel, ArePlacedBatches, IsOutline, clash_of, clash_at, closed_in, cut_of, disturbs}
+use Rattle.eco_batches.proofs.Common.{kills_in, kills_too, late_at, no_system, reads_in, system_in, system_of, system_at, systems_of, traits_in, Declared}
 use Rattle.std.proofs.lemmas.Bool.Decides.{Decides-or}
-use Rattle.std.proofs.lemmas.List.{map-append}
-use Rattle.std.proofs.lemmas.Option.{same_Some, none-some}
-use Rattle.eco_systems.proofs.Lists.{some_exact}
-use Rattle.eco_ids.specs.Matching.{pattern_overlaps}
-use Rattle.eco_ids.specs.World.{WorldState}
 use Rattle.eco_ids.proofs.Further.{found_at}
 use Rattle.eco_systems.specs.Batches.{Conflict, Disturbs, AreBatches}
-use Rattle.eco_systems.specs.Joining.{batched}
 use Rattle.eco_systems.specs.Laws.{JoiningMakesBatches, OrderHasSystems}
-use Rattle.eco_systems.specs.Phases.{in_order, order_of}
 use Rattle.eco_systems.specs.Systems.{SystemModel, system_reads}
-use Rattle.eco_systems.specs.Writes.{SomeOf, IsTraitWriter, writes_trait}
 use Rattle.eco_systems.proofs.ClosedLists.{nothing_closed}
-use Rattle.eco_batches.specs.OutlineModels.{OutlineModel}
-use Rattle.eco_batches.specs.Outlines.{ArePlacedBatches, IsOutline, clash_of, clash_at, closed_in, cut_of, disturbs, kills_in, kills_too, late_at}
-use Rattle.eco_batches.specs.Outlines.{no_system, reads_in, system_in, system_of, system_at, systems_of, traits_in}
-use Rattle.eco_batches.specs.declared.declaration.Declared.{Declared}
 
 -- ---- an outline for each system
 

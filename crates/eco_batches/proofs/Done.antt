@@ -1,5 +1,5 @@
 -- What holds where a call was done.
-use Rattle.std.proofs.Common.{Result, Ok, Err, OnOk}
+use Rattle.eco_batches.proofs.Common.{Result, Ok, Err, OnOk}
 
 pub if_done : {E A B : Type 0} → (A → B) → (r : Result (Unit {0}) E) → OnOk r A → OnOk r B
 if_done f (Ok u) h = f h

@@ -1,26 +1,13 @@
 -- The loop that joins systems one by one.
-use Rattle.std.proofs.Common.{◌≡◌, ℕ, ◌+◌, ◌<◌, Bool, true, false, cond, ◌&&◌, ◌||◌, List, [], ◌∷◌, ◌++◌, map, length, get_or, take, drop, Option}
-use Rattle.std.proofs.Common.{◌≤◌, slice_get, refl, sym, ap, ◌∙◌, subst, true≢false, append_assoc}
-use Rattle.std.specs.List.{AllZip, IsDistinct, list_any}
-use Rattle.std.proofs.lemmas.List.{drop_all, drop_more, map-append, map_push, take_more}
-use Rattle.std.proofs.lemmas.List.Folds.{list_any-append}
+use Rattle.eco_batches.proofs.Common.{◌≡◌, ℕ, ◌+◌, ◌<◌, Bool, true, false, cond, ◌&&◌, ◌||◌, List, [], ◌∷◌, ◌++◌, map, length}
+use Rattle.eco_batches.proofs.Common.{get_or, take, drop, Option, ◌≤◌, slice_get, refl, sym, ap, ◌∙◌, subst, true≢false, append_assoc, AllZip}
+use Rattle.eco_batches.proofs.Common.{IsDistinct, list_any, drop_all, drop_more, map-append, map_push, take_more, list_any-append, Pattern, pattern_overlaps}
+use Rattle.eco_batches.proofs.Common.{WorldState, has_any, batched, ListsClosed, writes_trait, same_pattern, OutlineModel, IsOutline, clash_at, clash_of}
+use Rattle.eco_batches.proofs.Common.{closed_in, disturbs, kills_in, kills_too, late_at, reads_in, overlaps, Declared, or-false, or_assoc}
 use Rattle.eco_ids.specs.declared.edition.Edition.{Edition}
-use Rattle.eco_ids.specs.declared.pattern.Pattern.{Pattern}
-use Rattle.eco_ids.specs.Matching.{pattern_overlaps}
-use Rattle.eco_ids.specs.World.{WorldState}
 use Rattle.eco_ids.proofs.Further.{zip_push}
-use Rattle.eco_query.specs.Queries.{has_any}
-use Rattle.eco_systems.specs.Joining.{batched}
-use Rattle.eco_systems.specs.Closing.{ListsClosed}
-use Rattle.eco_systems.specs.Writes.{writes_trait}
-use Rattle.eco_batches.specs.Brought.{same_pattern}
 use Rattle.eco_batches.specs.Open.{IsFresh, IsOpen, JoinsNext, JoinsOpen, stands_apart}
-use Rattle.eco_batches.specs.OutlineModels.{OutlineModel}
-use Rattle.eco_batches.specs.Outlines.{IsOutline, clash_at, clash_of, closed_in, disturbs, kills_in, kills_too, late_at, reads_in}
-use Rattle.eco_batches.specs.Written.{overlaps}
 use Rattle.eco_batches.specs.declared.batch.Batch.{Batch}
-use Rattle.eco_batches.specs.declared.declaration.Declared.{Declared}
-use Rattle.std.proofs.Math.Bool.{or-false, or_assoc}
 
 -- ---- what is asked of each system of a batch, asked of all together
 

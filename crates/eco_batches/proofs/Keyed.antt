@@ -1,21 +1,11 @@
 -- Keys that are noted and found.
-use Rattle.std.proofs.Common.{◌≡◌, Bool, true, false, ◌||◌, List, [], ◌∷◌, ◌++◌, refl, sym, ap, ◌∙◌, subst, IsTrue, true≢false, Ordering, if◌then◌else◌}
-use Rattle.std.specs.List.{list_any}
-use Rattle.std.specs.Ordering.{eq_by_cmp}
-use Rattle.std.proofs.Math.Bool.{or-false}
-use Rattle.std.proofs.lemmas.List.Folds.{list_any-append}
-use Rattle.indexmap.specs.IndexSet.{insert_key}
-use Rattle.eco_ids.proofs.Facts.{same_tests}
-use Rattle.eco_ids.specs.declared.entity.Entity.{Entity}
-use Rattle.eco_ids.specs.declared.id.Id.{Id}
+use Rattle.eco_batches.proofs.Common.{◌≡◌, Bool, true, false, ◌||◌, List, [], ◌∷◌, ◌++◌, refl, sym, ap, ◌∙◌, subst, IsTrue}
+use Rattle.eco_batches.proofs.Common.{true≢false, Ordering, if◌then◌else◌, list_any, eq_by_cmp, or-false, list_any-append, insert_key, same_tests}
+use Rattle.eco_batches.proofs.Common.{Entity, Id, id_eq_is, entity_eq_is, has_any, IsNoted}
 use Rattle.eco_ids.specs.Order.{entity_cmp, has_item, id_cmp}
 use Rattle.eco_ids.specs.OrderLaws.{entity_ties, id_ties}
 use Rattle.eco_ids.specs.contracts.entity.EntityPartialEq.TheImpl as entity_impl
 use Rattle.eco_ids.specs.contracts.id.IdPartialEq.TheImpl as id_impl
-use Rattle.eco_ids.proofs.Facts.{id_eq_is}
-use Rattle.eco_ids.proofs.Overlaps.{entity_eq_is}
-use Rattle.eco_query.specs.Queries.{has_any}
-use Rattle.eco_batches.specs.Keys.{IsNoted}
 
 some_push : {K : Type 0} (xs : List K) (x : K) → has_any (xs ++ x ∷ []) ≡ true
 some_push [] x = refl

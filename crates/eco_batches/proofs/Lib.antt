@@ -10,3 +10,4 @@ mod Overlapped
 mod Parts
 mod Patterns
 mod Same
+pub mod Common

@@ -1,9 +1,6 @@
 -- Members of lists.
-use Rattle.std.proofs.Common.{◌≡◌, Bool, ◌⊎◌, inl, inr, List, [], ◌∷◌, ◌++◌, map, flat_map, refl, sym, ap, subst, IsTrue, true≢false}
-use Rattle.std.specs.List.{list_any}
-use Rattle.eco_ids.proofs.Facts.{or_left, or_parts, or_right}
-use Rattle.eco_systems.specs.Writes.{SomeOf}
-use Rattle.eco_systems.proofs.Lists.{some_left, some_right}
+use Rattle.eco_batches.proofs.Common.{◌≡◌, Bool, ◌⊎◌, inl, inr, List, [], ◌∷◌, ◌++◌, map, flat_map, refl, sym, ap, subst, IsTrue}
+use Rattle.eco_batches.proofs.Common.{true≢false, list_any, or_left, or_parts, or_right, SomeOf, some_left, some_right}
 
 abbrev pub Member : {A : Type 0} → A → List A → Type 0
 Member x xs = SomeOf (λ y. y ≡ x) xs

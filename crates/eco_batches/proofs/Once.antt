@@ -1,23 +1,13 @@
 -- Patterns that are listed once.
-use Rattle.std.proofs.Common.{◌≡◌, Bool, true, false, ◌||◌, List, [], ◌∷◌, ◌++◌, map, refl, sym, ap, ◌∙◌, subst, IsTrue, true≢false, if◌then◌else◌}
-use Rattle.std.proofs.Common.{ℕ, ◌+◌, ◌<◌, get_or, length, take}
-use Rattle.std.proofs.lemmas.List.{map_push, take_more}
-use Rattle.std.specs.List.{AllByRecursion, IsDistinct, list_any}
-use Rattle.std.proofs.lemmas.List.Folds.{list_any-append}
+use Rattle.eco_batches.proofs.Common.{◌≡◌, Bool, true, false, ◌||◌, List, [], ◌∷◌, ◌++◌, map, refl, sym, ap, ◌∙◌, subst, IsTrue}
+use Rattle.eco_batches.proofs.Common.{true≢false, if◌then◌else◌, ℕ, ◌+◌, ◌<◌, get_or, length, take, map_push, take_more, AllByRecursion}
+use Rattle.eco_batches.proofs.Common.{list_any, list_any-append, insert_all, insert_key, neither, off, Pattern, WorldState, ListsClosed, widened, all_append}
+use Rattle.eco_batches.proofs.Common.{AreClosed, unrepeated, key_pattern, same_pattern, Key, or-false, or_assoc}
+use Rattle.std.specs.List.{IsDistinct}
 use Rattle.std.proofs.lemmas.Map.Keys.{IsDistinct-cons, IsDistinct-head, IsDistinct-tail}
-use Rattle.indexmap.specs.IndexSet.{insert_all, insert_key}
-use Rattle.eco_ids.proofs.Facts.{neither, off}
-use Rattle.eco_ids.specs.declared.pattern.Pattern.{Pattern}
-use Rattle.eco_ids.specs.World.{WorldState}
-use Rattle.eco_systems.specs.Closing.{ListsClosed}
-use Rattle.eco_systems.specs.Writes.{widened}
-use Rattle.eco_systems.proofs.Lists.{all_append}
-use Rattle.eco_batches.specs.Brought.{AreClosed, unrepeated, key_pattern, same_pattern}
-use Rattle.eco_batches.specs.declared.key.Key.{Key}
-use Rattle.eco_batches.specs.contracts.key.KeyPartialEq.TheImpl as key_eq
-use Rattle.std.proofs.Math.Bool.{or-false, or_assoc}
 use Rattle.eco_batches.proofs.Members.{from_map, in_map, passes, passing}
 use Rattle.eco_batches.proofs.Patterns.{pattern_eq-Decides}
+use Rattle.eco_batches.specs.contracts.key.KeyPartialEq.TheImpl as key_eq
 
 insert_all_push : {K : Type 0} (eq : K → K → Bool) (ks xs : List K) (x : K) → insert_all eq ks (xs ++ x ∷ []) ≡ insert_key eq (insert_all eq ks xs) x
 insert_all_push eq ks [] x = refl

@@ -1,8 +1,6 @@
 -- Loops that put behind a list what each item of another gives.
-use Rattle.std.proofs.Common.{◌≡◌, ℕ, ◌+◌, ◌<◌, List, [], ◌∷◌, ◌++◌, length, map, append_assoc, sym, ap, ◌∙◌, get_or, take}
-use Rattle.std.specs.Prelude.{flat_map}
-use Rattle.std.proofs.lemmas.List.{flat_map_more, map_push, take_more}
-use Rattle.eco_systems.specs.Phases.{positions_from}
+use Rattle.eco_batches.proofs.Common.{◌≡◌, ℕ, ◌+◌, ◌<◌, List, [], ◌∷◌, ◌++◌, length, map, append_assoc, sym, ap, ◌∙◌, get_or}
+use Rattle.eco_batches.proofs.Common.{take, flat_map, flat_map_more, map_push, take_more, positions_from}
 use Rattle.eco_systems.specs.Systems.{SystemModel}
 use Rattle.eco_systems.specs.declared.phase.Phase.{Phase}
 

@@ -1,24 +1,11 @@
 -- Patterns that are put in one by one, by keys.
-use Rattle.std.proofs.Common.{◌≡◌, Bool, true, false, ◌||◌, ◌&&◌, List, [], ◌∷◌, refl, sym, ap, ◌∙◌, Ordering, Less, Equal, Greater, is_eq, Option}
-use Rattle.std.proofs.Common.{Some, None}
-use Rattle.std.specs.List.{list_any}
-use Rattle.std.specs.Ordering.{ordering_then}
-use Rattle.std.proofs.lemmas.List.Folds.{list_any-append}
-use Rattle.std.proofs.lemmas.Option.{same_Some, none-some}
-use Rattle.eco_ids.specs.declared.entity.Entity.{Entity}
-use Rattle.eco_ids.specs.declared.id.Id.TheVariants as id
-use Rattle.eco_ids.specs.declared.pattern.Part.{Part}
-use Rattle.eco_ids.specs.declared.pattern.Part.TheVariants.{Is, Each, Any}
-use Rattle.eco_ids.specs.declared.pattern.Pattern.{Pattern}
-use Rattle.eco_ids.specs.declared.pattern.Pattern.TheVariants.{One, Two}
-use Rattle.eco_ids.specs.Matching.{pattern_overlaps}
+use Rattle.eco_batches.proofs.Common.{◌≡◌, Bool, true, false, ◌||◌, ◌&&◌, List, [], ◌∷◌, refl, sym, ap, ◌∙◌, Ordering, Less, Equal}
+use Rattle.eco_batches.proofs.Common.{Greater, is_eq, Option, Some, None, list_any, ordering_then, list_any-append, same_Some, none-some, Entity, Part, Is}
+use Rattle.eco_batches.proofs.Common.{Each, Any, Pattern, One, Two, pattern_overlaps, has_any, part_entity, overlaps, overlaps_pairs, HasAllPairs, HasPair}
+use Rattle.eco_batches.proofs.Common.{HasPairs, HasSingle, HasWild, IsNothing, and-true, or-false, or-true, or_assoc, IsNoted}
 use Rattle.eco_ids.specs.Order.{entity_cmp, entity_eq, has_item, id_cmp, id_eq}
-use Rattle.eco_query.specs.Queries.{has_any}
-use Rattle.eco_batches.specs.Keys.{part_entity}
-use Rattle.eco_batches.specs.Written.{overlaps, overlaps_pairs, HasAllPairs, HasPair, HasPairs, HasSingle, HasWild, IsNothing}
 use Rattle.eco_batches.specs.declared.written.Written.{Written}
-use Rattle.std.proofs.Math.Bool.{and-true, or-false, or-true, or_assoc}
-use Rattle.eco_batches.specs.Keys.{IsNoted}
+use Rattle.eco_ids.specs.declared.id.Id.TheVariants as id
 
 -- what is new comes last
 last_of_two : (a e x : Bool) → ((a || e) || x) ≡ ((a || x) || e)

@@ -1,12 +1,9 @@
 -- Closed writes of all systems in one list.
-use Rattle.std.proofs.Common.{◌≡◌, ℕ, ◌-◌, ◌≤◌, List, [], ◌∷◌, ◌++◌, map, length, take, drop, refl, ap, ◌∙◌, arith, length-append, length-drop}
+use Rattle.eco_batches.proofs.Common.{◌≡◌, ℕ, ◌-◌, ◌≤◌, List, [], ◌∷◌, ◌++◌, map, length, take, drop, refl, ap, ◌∙◌, arith}
+use Rattle.eco_batches.proofs.Common.{length-append, length-drop, AllByRecursion, drop-append-le, map-append, take-append-le, take_all, Pattern, outline_of}
+use Rattle.eco_batches.proofs.Common.{IsWithin, Outline}
 use Rattle.std.specs.Prelude.{slice_range}
-use Rattle.std.specs.List.{AllByRecursion}
 use Rattle.std.proofs.Math.Seq.{drop-append_seam}
-use Rattle.std.proofs.lemmas.List.{drop-append-le, map-append, take-append-le, take_all}
-use Rattle.eco_ids.specs.declared.pattern.Pattern.{Pattern}
-use Rattle.eco_batches.specs.OutlineModels.{outline_of, IsWithin}
-use Rattle.eco_batches.specs.declared.outline.Outline.{Outline}
 
 part_kept : (all more : List Pattern) (start end : ℕ) → start ≤ end → end ≤ length all → slice_range (all ++ more) start end ≡ slice_range all start end
 part_kept all more start end below within =

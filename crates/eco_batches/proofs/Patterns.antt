@@ -1,14 +1,9 @@
 -- `==` of patterns says whether they are the same.
-use Rattle.eco_ids.proofs.Common.{◌≡◌, ap, arith, common_steps}
-use Rattle.std.specs.Bool.{Decides}
-use Rattle.eco_ids.specs.declared.pattern.Part.{Part}
-use Rattle.eco_ids.specs.declared.pattern.Part.TheVariants.{Is, Each, Any}
-use Rattle.eco_ids.specs.declared.pattern.Pattern.{Pattern}
-use Rattle.eco_ids.specs.declared.pattern.Pattern.TheVariants.{One, Two}
-use Rattle.eco_ids.specs.contracts.pattern.PartPartialEq.TheImpl as part_eq
-use Rattle.eco_ids.specs.contracts.pattern.PatternPartialEq.TheImpl as pattern_eq
+use Rattle.eco_batches.proofs.Common.{◌≡◌, ap, arith, common_steps, Decides, Part, Is, Each, Any, Pattern, One, Two}
 use Rattle.eco_ids.proofs.Ascending.{both, first, second}
 use Rattle.eco_ids.proofs.SameIds.{entity_eq-Decides}
+use Rattle.eco_ids.specs.contracts.pattern.PartPartialEq.TheImpl as part_eq
+use Rattle.eco_ids.specs.contracts.pattern.PatternPartialEq.TheImpl as pattern_eq
 
 part_eq-Decides : (p q : Part) → Decides ((part_eq.eq-value).it p q) (p ≡ q)
 part_eq-Decides (Is a) (Is b) = (λ e. ap Is ((entity_eq-Decides a b).0 e), λ e. (entity_eq-Decides a b).1 (let same : a ≡ b = cc in same))

@@ -1,12 +1,9 @@
 -- `==` of outlines says whether they are the same.
-use Rattle.eco_ids.proofs.Common.{◌≡◌, List, arith, pointwise, pointwise_decides, common_steps}
-use Rattle.std.specs.Bool.{Decides}
-use Rattle.eco_ids.specs.declared.pattern.Pattern.{Pattern}
-use Rattle.eco_ids.specs.contracts.pattern.PatternPartialEq.TheImpl as pattern_eq
+use Rattle.eco_batches.proofs.Common.{◌≡◌, List, arith, pointwise, pointwise_decides, common_steps, Decides, Pattern, Outline}
 use Rattle.eco_ids.proofs.Ascending.{both, first, second}
-use Rattle.eco_batches.specs.declared.outline.Outline.{Outline}
-use Rattle.eco_batches.specs.contracts.outline.OutlinePartialEq.TheImpl as outline_eq
 use Rattle.eco_batches.proofs.Patterns.{pattern_eq-Decides}
+use Rattle.eco_ids.specs.contracts.pattern.PatternPartialEq.TheImpl as pattern_eq
+use Rattle.eco_batches.specs.contracts.outline.OutlinePartialEq.TheImpl as outline_eq
 
 outline_eq-Decides : (a b : Outline) → Decides ((outline_eq.eq-value).it a b) (a ≡ b)
 outline_eq-Decides a b = grind (arith, common_steps, first, second, both)

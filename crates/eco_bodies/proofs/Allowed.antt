@@ -1,21 +1,9 @@
 -- What a script's actions write allows them.
-use Rattle.std.proofs.Common.{◌≡◌, Bool, List, [], ◌∷◌, ◌++◌, Some, None, refl, ◌∙◌, IsTrue}
-use Rattle.std.specs.List.{list_all, list_any}
-use Rattle.std.proofs.lemmas.List.Folds.{list_any-append}
-use Rattle.eco_ids.specs.declared.id.Id.{Id}
-use Rattle.eco_ids.specs.declared.id.Id.TheVariants as id
-use Rattle.eco_ids.specs.declared.pattern.Pattern.{Pattern}
-use Rattle.eco_ids.specs.Matching.{pattern_matches}
-use Rattle.eco_ids.specs.Order.{entity_eq}
-use Rattle.eco_ids.proofs.Ascending.{both}
-use Rattle.eco_ids.proofs.Facts.{or_left, or_right}
+use Rattle.eco_bodies.proofs.Common.{◌≡◌, Bool, List, [], ◌∷◌, ◌++◌, Some, None, refl, ◌∙◌, IsTrue, list_all, list_any, list_any-append}
+use Rattle.eco_bodies.proofs.Common.{Id, Pattern, pattern_matches, entity_eq, both, or_left, or_right, QuerySlot, exactly, matches_one, action_writes, is_kill}
+use Rattle.eco_bodies.proofs.Common.{script_writes, is_allowed, Action, AddId, RemoveId, Put, Sum, Kill, Spawn}
 use Rattle.eco_ids.proofs.Overlaps.{entity_eq_itself}
-use Rattle.eco_query.specs.Queries.{QuerySlot, exactly}
-use Rattle.eco_systems.specs.Systems.{matches_one}
-use Rattle.eco_bodies.specs.Actions.{action_writes, is_kill, script_writes}
-use Rattle.eco_bodies.specs.Scripts.{is_allowed}
-use Rattle.eco_bodies.specs.declared.action.Action.{Action}
-use Rattle.eco_bodies.specs.declared.action.Action.TheVariants.{AddId, RemoveId, Put, Sum, Kill, Spawn}
+use Rattle.eco_ids.specs.declared.id.Id.TheVariants as id
 
 exact_match : (i : Id) → IsTrue (pattern_matches (exactly i) i)
 exact_match (id.One e) = entity_eq_itself e

@@ -1,32 +1,18 @@
 -- What stands at the slots of a row that its query answers.
-use Rattle.std.proofs.Common.{◌≡◌, ◌<◌, ℕ, zero, suc, true, false, cond, ◌||◌, List, [], ◌∷◌, ◌++◌, map, length, get_or, refl, sym, ap, ◌∙◌, subst}
-use Rattle.std.proofs.Common.{IsTrue, inl, inr, Contains, Option, Some, None, arith, eqb-true, true≢false}
-use Rattle.std.proofs.Common.{le_of_suc-le-suc, filter}
-use Rattle.std.specs.Prelude.{find, option_to_list}
-use Rattle.std.specs.List.{list_any, AllByRecursion}
-use Rattle.std.proofs.lemmas.List.Folds.{list_any-append}
-use Rattle.std.proofs.lemmas.Option.{none-some}
-use Rattle.eco_ids.specs.declared.entity.Entity.{Entity}
-use Rattle.eco_ids.specs.declared.id.Id.{Id}
-use Rattle.eco_ids.specs.declared.pattern.Pattern.{Pattern}
+use Rattle.eco_bodies.proofs.Common.{◌≡◌, ◌<◌, ℕ, zero, suc, true, false, cond, ◌||◌, List, [], ◌∷◌, ◌++◌, map, length, get_or, refl}
+use Rattle.eco_bodies.proofs.Common.{sym, ap, ◌∙◌, subst, IsTrue, inl, inr, Contains, Option, Some, None, arith, eqb-true, true≢false, le_of_suc-le-suc}
+use Rattle.eco_bodies.proofs.Common.{filter, find, option_to_list, list_any, AllByRecursion, list_any-append, none-some, Entity, Id, Pattern, pattern_matches}
+use Rattle.eco_bodies.proofs.Common.{has_item, id_cmp, first, or_left, or_parts, or_right, QuerySlot, exactly, matches_one, action_writes, asks_presence}
+use Rattle.eco_bodies.proofs.Common.{patterns_at, script_writes, slot_at, Action, AddId, RemoveId, Put, Sum, Kill, Spawn}
 use Rattle.eco_ids.specs.Answer.{Row, answer, choices, entries_of, is_least_match}
-use Rattle.eco_ids.specs.Matching.{pattern_matches}
-use Rattle.eco_ids.specs.Order.{has_item, id_cmp}
 use Rattle.eco_ids.specs.Terms.{QueryTerm, And, Not, Optional, Or}
 use Rattle.eco_ids.specs.World.{Record, WorldState, living}
-use Rattle.eco_ids.proofs.Ascending.{first}
-use Rattle.eco_ids.proofs.Facts.{or_left, or_parts, or_right}
-use Rattle.eco_query.specs.Queries.{QuerySlot, exactly}
 use Rattle.eco_query.specs.declared.access.Access.{Access}
 use Rattle.eco_systems.specs.Rows.{ValuedRow, valued_rows, valued}
-use Rattle.eco_systems.specs.Systems.{matches_one}
 use Rattle.eco_systems.proofs.Answers.{IsRead, asked, exact_match, found_item}
 use Rattle.eco_systems.proofs.Lists.{all_gathered, all_mapped, all_pass}
-use Rattle.eco_bodies.specs.Actions.{action_writes, asks_presence, patterns_at, script_writes, slot_at}
 use Rattle.eco_bodies.specs.Laws.{OwnEntriesAreSet, sets_slot}
 use Rattle.eco_bodies.specs.Lent.{item_at}
-use Rattle.eco_bodies.specs.declared.action.Action.{Action}
-use Rattle.eco_bodies.specs.declared.action.Action.TheVariants.{AddId, RemoveId, Put, Sum, Kill, Spawn}
 
 -- beginnings of one list, as long as one another, are one
 pub same_beginning : {A : Type 0} (xs ys rest later : List A) → length xs ≡ length ys → xs ++ rest ≡ ys ++ later → xs ≡ ys

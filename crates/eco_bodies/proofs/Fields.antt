@@ -1,7 +1,6 @@
 -- One more field of a sum.
-use Rattle.std.proofs.Common.{◌≡◌, ℕ, zero, suc, ◌+◌, ◌<◌, ℤ, List, [], ◌∷◌, ◌++◌}
-use Rattle.std.proofs.Common.{length, take, drop, get_or, slice_set, refl, sym, ap, ◌∙◌, arith}
-use Rattle.std.proofs.Common.{add-one}
+use Rattle.eco_bodies.proofs.Common.{◌≡◌, ℕ, zero, suc, ◌+◌, ◌<◌, ℤ, List, [], ◌∷◌, ◌++◌, length, take, drop, get_or, slice_set}
+use Rattle.eco_bodies.proofs.Common.{refl, sym, ap, ◌∙◌, arith, add-one}
 use Rattle.eco_bodies.specs.Sums.{bounded_sum, field_sums}
 
 -- the first k fields are summed

@@ -1,3 +1,4 @@
+pub mod Common
 pub mod Allowed
 pub mod Called
 pub mod Entries

@@ -1,12 +1,9 @@
 -- The first action for which there is a reason to refuse it.
-use Rattle.std.proofs.Common.{◌≡◌, ℕ, ◌+◌, ◌<◌, true, false, List, length, drop, get_or}
-use Rattle.std.proofs.Common.{Option, Some, None, is_some, refl, sym, ap, ◌∙◌, true≢false}
+use Rattle.eco_bodies.proofs.Common.{◌≡◌, ℕ, ◌+◌, ◌<◌, true, false, List, length, drop, get_or, Option, Some, None, is_some, refl, sym, ap}
+use Rattle.eco_bodies.proofs.Common.{◌∙◌, true≢false, QuerySlot, action_refusal, first_action_refusal, Action}
 use Rattle.std.proofs.lemmas.List.{drop_more}
 use Rattle.std.specs.Option.{option_or}
 use Rattle.eco_ids.specs.declared.refusal.Refusal.{Refusal}
-use Rattle.eco_query.specs.Queries.{QuerySlot}
-use Rattle.eco_bodies.specs.Actions.{action_refusal, first_action_refusal}
-use Rattle.eco_bodies.specs.declared.action.Action.{Action}
 
 here : (r rest : Option Refusal) → is_some r ≡ true → option_or r rest ≡ r
 here None rest h = absurd (true≢false (sym h))

@@ -1,9 +1,7 @@
 -- What some things take and record in order, when one more of them has recorded.
-use Rattle.std.proofs.Common.{◌≡◌, ℕ, ◌+◌, ◌≤◌, List, [], ◌∷◌, ◌++◌, Some, length, slice_get}
-use Rattle.std.proofs.Common.{take, drop, refl, sym, ap, ◌∙◌, append_assoc, length-append, subst, arith}
+use Rattle.eco_bodies.proofs.Common.{◌≡◌, ℕ, ◌+◌, ◌≤◌, List, [], ◌∷◌, ◌++◌, Some, length, slice_get, take, drop, refl, sym, ap}
+use Rattle.eco_bodies.proofs.Common.{◌∙◌, append_assoc, length-append, subst, arith, get_or_from_slice_get, slice_get_within, Entity}
 use Rattle.std.proofs.lemmas.List.{append-nil, drop-drop, drop_at, take_more, drop_more, take-append-drop}
-use Rattle.std.proofs.lemmas.Option.{get_or_from_slice_get, slice_get_within}
-use Rattle.eco_ids.specs.declared.entity.Entity.{Entity}
 use Rattle.eco_ids.specs.Run.{Command}
 use Rattle.eco_bodies.specs.Taking.{AllTook, BreaksAll, TakesNext, OneTook, commands_in_turn, taken_of}
 

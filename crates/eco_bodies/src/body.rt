@@ -15,8 +15,9 @@ use eco_stages::{Draws, Stage};
 
 /// What a system does with each row of its query (Flecs manual, Systems). It changes nothing itself: it records commands,
 /// which are merged behind the system's batch. The commands, and how many fresh handles it draws, are a function of the row
-/// and of the handles that are there to draw, of which it looks at those that it takes alone. What it records keeps to what it declares: the ids that it adds, sets and
-/// removes match a pattern of `writes`, and only one that `kills` deletes and clears entities.
+/// and of the handles that are there to draw, of which it looks at those that it takes alone. What it records keeps to what
+/// it declares: the ids that it adds, sets and removes match a pattern of `writes`, and only one that `kills` deletes and
+/// clears entities.
 pub trait SystemBody {
     // The patterns that it reads.
     ghost reads_of: { Self → List PatternData };

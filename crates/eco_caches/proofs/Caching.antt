@@ -1,20 +1,13 @@
 -- Caches that are told of the type of a slot, one after another.
-use Rattle.std.proofs.Common.{◌≡◌, ◌≢◌, ℕ, zero, suc, ◌+◌, ◌<◌, ◌≤◌, List, [], ◌∷◌, ◌++◌}
-use Rattle.std.proofs.Common.{length, map, slice_get, take, Option, Some, None, IfSome, Result, Ok, Err, IfOk, get_or, nat_eq}
+use Rattle.eco_caches.proofs.Common.{◌≡◌, ◌≢◌, ℕ, zero, suc, ◌+◌, ◌<◌, ◌≤◌, List, [], ◌∷◌, ◌++◌, length, map, slice_get}
+use Rattle.eco_caches.proofs.Common.{take, Option, Some, None, IfSome, Result, Ok, Err, IfOk, get_or, nat_eq, QuerySlot, refl, sym, ap, ◌∙◌, subst, arith}
+use Rattle.eco_caches.proofs.Common.{inl, inr, ◌⊎◌, map-set_same, spare, Id, Cache, asked, ChoicesState, AreExact, AreKept, AreThose, AreTold}
+use Rattle.eco_caches.proofs.Common.{ChangesType, HaveRoom, IsExact, IsTold, KeepStill, KeepsStill, StayExact, CacheState, cache_state, cache_states}
+use Rattle.eco_caches.proofs.Common.{choices_on, fulfils, kept_queries}
 use Rattle.std.proofs.lemmas.List.{map-append, take_all, take_more}
-use Rattle.eco_query.specs.Queries.{QuerySlot}
-use Rattle.std.proofs.Common.{refl, sym, ap, ◌∙◌, subst, arith, inl, inr, ◌⊎◌}
-use Rattle.std.proofs.Math.Seq.{map-set_same}
-use Rattle.std.specs.HashSet.{spare}
 use Rattle.std.specs.List.{list_any}
 use Rattle.std.specs.Prelude.{slice_set}
 use Rattle.std.proofs.lemmas.Bool.{cases_lt}
-use Rattle.eco_ids.specs.declared.id.Id.{Id}
-use Rattle.eco_caches.specs.declared.cache.Cache.{Cache}
-use Rattle.eco_entries.specs.Answers.{asked}
-use Rattle.eco_entries.specs.Flat.{ChoicesState}
-use Rattle.eco_caches.specs.Caching.{AreExact, AreKept, AreThose, AreTold, ChangesType, HaveRoom, IsExact, IsTold, KeepStill, KeepsStill, StayExact}
-use Rattle.eco_caches.specs.Caching.{CacheState, cache_state, cache_states, choices_on, fulfils, kept_queries}
 use Rattle.eco_caches.proofs.Onlies.{map_alike}
 
 -- those before a place were told, and those from it on are as they were

@@ -1,7 +1,8 @@
 -- The only choices that a cache keeps, slot by slot.
-use Rattle.std.proofs.Common.{◌≡◌, ◌≢◌, ℕ, suc, ◌+◌, ◌-◌, ◌<◌, ◌≤◌, Bool, true}
-use Rattle.std.proofs.Common.{false, true≢false, cond, not, ◌||◌, nat_eq, List, [], ◌∷◌, ◌++◌, length, map}
-use Rattle.std.proofs.Common.{take, get_or, position, Option, Some, None, IfSome, is_some, refl, sym, ap, ◌∙◌, arith, subst, if◌then◌else◌}
+use Rattle.eco_caches.proofs.Common.{◌≡◌, ◌≢◌, ℕ, suc, ◌+◌, ◌-◌, ◌<◌, ◌≤◌, Bool, true, false, true≢false, cond, not, ◌||◌}
+use Rattle.eco_caches.proofs.Common.{nat_eq, List, [], ◌∷◌, ◌++◌, length, map, take, get_or, position, Option, Some, None, IfSome, is_some, refl, sym}
+use Rattle.eco_caches.proofs.Common.{ap, ◌∙◌, arith, subst, if◌then◌else◌, take-append_seam, Id, QuerySlot, slot_view, term_view, asked, asks}
+use Rattle.eco_caches.proofs.Common.{ChoicesState, AreKept, AreOnly, AreThose, ChangesType, KeepsNew, KeepsOnly, LosesOnly, choices_on, fulfils}
 use Rattle.std.specs.Option.{option_map_or}
 use Rattle.std.specs.Prelude.{IfNone, MatchBool, nat_lt}
 use Rattle.indexmap.specs.IndexMap.{swap_remove_by}
@@ -10,15 +11,9 @@ use Rattle.std.specs.List.{AllByRecursion, list_any, swap_remove, position_or_le
 use Rattle.std.proofs.lemmas.Bool.Decides.{Decides-eqb, Decides-ltb}
 use Rattle.std.proofs.lemmas.List.{get_or_default, map-append, map-set, set-append_left, take-map, length-append, length-map, length-set, take_all, take_more}
 use Rattle.std.proofs.Math.ListN.{get_or-map, set}
-use Rattle.std.proofs.Math.Seq.{take-append_seam}
 use Rattle.eco_ids.specs.Answer.{choices}
 use Rattle.eco_ids.specs.Terms.{QueryTerm}
-use Rattle.eco_ids.specs.declared.id.Id.{Id}
-use Rattle.eco_query.specs.Queries.{QuerySlot, slot_view, term_view}
 use Rattle.eco_query.specs.declared.slot.Slot.{Slot}
-use Rattle.eco_entries.specs.Answers.{asked, asks}
-use Rattle.eco_entries.specs.Flat.{ChoicesState}
-use Rattle.eco_caches.specs.Caching.{AreKept, AreOnly, AreThose, ChangesType, KeepsNew, KeepsOnly, LosesOnly, choices_on, fulfils}
 
 -- functions that give the same
 pub map_alike : {X : Type 0} {f g : ℕ → X} → ((m : ℕ) → g m ≡ f m) → (ns : List ℕ) → map g ns ≡ map f ns

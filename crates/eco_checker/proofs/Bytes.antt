@@ -1,11 +1,9 @@
 -- Which bytes are a script, by the value that they are.
-use Rattle.std.proofs.Common.{◌≡◌, ℕ, Bool, true, false, List, ◌++◌, Option, Some, None, Result, Ok, Err, IfOk, IsUtf8, inl, inr, refl, ap, ◌∙◌}
-use Rattle.std.proofs.lemmas.List.{append-nil}
+use Rattle.eco_checker.proofs.Common.{◌≡◌, ℕ, Bool, true, false, List, ◌++◌, Option, Some, None, Result, Ok, Err, IfOk, IsUtf8, inl, inr, refl, ap}
+use Rattle.eco_checker.proofs.Common.{◌∙◌, append-nil, Data, WrittenScript, IsScript, IsScriptData}
 use Rattle.std.specs.Io.KnownBytes.{Appends, Consumes, IsAtEnd}
-use Rattle.serde_json.specs.Data.{Data}
 use Rattle.serde_json.specs.Read.{read}
 use Rattle.eco_devices.specs.Beginning.{IsBeginning}
-use Rattle.eco_steps.specs.Script.{WrittenScript, IsScript, IsScriptData}
 use Rattle.eco_checker.specs.Told.{AreNoScript, AreScript, IsReport, IsReportOf, IsTextOf, WasCutShort, script_line}
 
 pub script_bytes : (bytes : List ℕ) (d : Data) → IsUtf8 bytes → read bytes ≡ Some d → ((s : WrittenScript) × IsScriptData d s) → (s : WrittenScript)

@@ -1,3 +1,4 @@
+pub mod Common
 pub mod Bytes
 pub mod Lines
 pub mod Listed

@@ -1,11 +1,9 @@
 -- The lines that tell faults.
-use Rattle.std.proofs.Common.{◌≡◌, ◌≢◌, ℕ, ◌+◌, ◌<◌, ◌≤◌, Bool, true, false, ltb, List, [], ◌∷◌, ◌++◌, All, length, map, flat_map, take, get_or}
-use Rattle.std.proofs.Common.{Result, Ok, Err, IfOk, OnOk, refl, ap, sym, ◌∙◌, inl, inr, ltb-false, arith}
-use Rattle.std.specs.Prelude.{codes, decimal}
+use Rattle.eco_checker.proofs.Common.{◌≡◌, ◌≢◌, ℕ, ◌+◌, ◌<◌, ◌≤◌, Bool, true, false, ltb, List, [], ◌∷◌, ◌++◌, All}
+use Rattle.eco_checker.proofs.Common.{length, map, flat_map, take, get_or, Result, Ok, Err, IfOk, OnOk, refl, ap, sym, ◌∙◌, inl, inr, ltb-false, arith}
+use Rattle.eco_checker.proofs.Common.{codes, decimal, append-nil, append_assoc, length-map, take_more, IsOfStep, AreOfStep, AreOfSteps, AreFaultLines}
+use Rattle.eco_checker.proofs.Common.{AreFaults, last_line, plural_end, unread_text, AddsLines, AddsSome, place_step, place_text}
 use Rattle.std.specs.List.{concat}
-use Rattle.std.proofs.lemmas.List.{append-nil, append_assoc, length-map, take_more}
-use Rattle.eco_checker.specs.Lines.{IsOfStep, AreOfStep, AreOfSteps, AreFaultLines, AreFaults, last_line, plural_end, unread_text}
-use Rattle.eco_checker.specs.Places.{AddsLines, AddsSome, place_step, place_text}
 use Rattle.eco_checker.specs.declared.report.Place.{Place}
 use Rattle.eco_checker.specs.declared.report.Place.TheVariants.{Step, Stage, Command, Action}
 

@@ -1,13 +1,8 @@
 -- Which numbers are listed, and that these are those of the values that are no step.
-use Rattle.std.proofs.Common.{◌≡◌, ℕ, ◌+◌, zero, suc, List, [], ◌∷◌, ◌<◌, length, map, get_or, Option, Some, None, refl, ap, sym, ◌∙◌, arith}
-use Rattle.std.proofs.lemmas.List.{length-map}
+use Rattle.eco_checker.proofs.Common.{◌≡◌, ℕ, ◌+◌, zero, suc, List, [], ◌∷◌, ◌<◌, length, map, get_or, Option, Some, None, refl, ap, sym}
+use Rattle.eco_checker.proofs.Common.{◌∙◌, arith, length-map, Data, step_in, WrittenStep, IsStepData, step_found, step_is, numbers_without, unless_found}
 use Rattle.std.specs.List.{All, Contains, slice_get}
-use Rattle.serde_json.specs.Data.{Data}
 use Rattle.eco_ids.specs.declared.edition.Edition.{Edition}
-use Rattle.eco_steps.specs.Decode.{step_in}
-use Rattle.eco_steps.specs.Steps.{WrittenStep, IsStepData}
-use Rattle.eco_steps.proofs.Decodes.{step_found, step_is}
-use Rattle.eco_checker.specs.Faults.{numbers_without, unless_found}
 use Rattle.eco_checker.specs.Laws.{AreThoseOfNoStep}
 
 module _ {A : Type 0} (find : Data → Option A) where

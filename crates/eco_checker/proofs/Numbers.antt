@@ -1,9 +1,7 @@
 -- The numbers of the values in which nothing is found, as a loop gathers them.
-use Rattle.std.proofs.Common.{◌≡◌, ℕ, ◌+◌, ◌<◌, List, [], ◌∷◌, ◌++◌, length, map, take, get_or, Option, Some, None, option_map, refl, ap, sym, ◌∙◌, arith}
-use Rattle.std.specs.Option.{is_some}
-use Rattle.std.proofs.lemmas.List.{length-map, length-take-le, map-append, take_more}
-use Rattle.serde_json.specs.Data.{Data}
-use Rattle.eco_checker.specs.Faults.{numbers_without, unless_found, unless_read}
+use Rattle.eco_checker.proofs.Common.{◌≡◌, ℕ, ◌+◌, ◌<◌, List, [], ◌∷◌, ◌++◌, length, map, take, get_or, Option, Some, None}
+use Rattle.eco_checker.proofs.Common.{option_map, refl, ap, sym, ◌∙◌, arith, is_some, length-map, length-take-le, map-append, take_more, Data}
+use Rattle.eco_checker.proofs.Common.{numbers_without, unless_found, unless_read}
 
 -- a value is read where something is found in it
 found_read : {A B : Type 0} (see : B → A) (n : ℕ) (r : Option B) (o : Option A) → option_map see r ≡ o → unless_found n o [] ≡ unless_read (is_some r) n

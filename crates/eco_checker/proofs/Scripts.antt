@@ -1,15 +1,11 @@
 -- A value is a script exactly where it has the three parts of one, and no number of an item is listed.
-use Rattle.std.proofs.Common.{◌≡◌, ℕ, ◌+◌, true, List, [], ◌∷◌, Option, Some, None, option_map, option_and_then, refl, ap, sym, ◌∙◌}
-use Rattle.std.specs.Option.{is_some, unwrap_or}
+use Rattle.eco_checker.proofs.Common.{◌≡◌, ℕ, ◌+◌, true, List, [], ◌∷◌, Option, Some, None, option_map, option_and_then, refl, ap, sym}
+use Rattle.eco_checker.proofs.Common.{◌∙◌, is_some, unwrap_or, Data, Parts, each_in, limit_in, list_in, parts_in, parts_of, parts_with, step_in}
+use Rattle.eco_checker.proofs.Common.{version_in, WrittenScript, IsScriptData, WrittenStep, no_parts, no_steps, script_is, edition_in, first_edition, items_in}
+use Rattle.eco_checker.proofs.Common.{numbers_without, third_items, unless_found}
 use Rattle.std.proofs.lemmas.Option.{option_and_then_some}
-use Rattle.serde_json.specs.Data.{Data}
 use Rattle.eco_ids.specs.declared.edition.Edition.{Edition}
 use Rattle.eco_ids.specs.declared.edition.Edition.TheVariants.{Second}
-use Rattle.eco_steps.specs.Decode.{Parts, each_in, limit_in, list_in, parts_in, parts_of, parts_with, step_in, version_in}
-use Rattle.eco_steps.specs.Script.{WrittenScript, IsScriptData}
-use Rattle.eco_steps.specs.Steps.{WrittenStep}
-use Rattle.eco_steps.proofs.Decodes.{no_parts, no_steps, script_is}
-use Rattle.eco_checker.specs.Faults.{edition_in, first_edition, items_in, numbers_without, third_items, unless_found}
 
 module _ {A : Type 0} (find : Data → Option A) where
   -- where no number is listed, something is found in each

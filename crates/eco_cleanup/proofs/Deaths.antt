@@ -1,35 +1,14 @@
 -- Who dies by the nodes that the search finds is who is doomed.
-use Rattle.std.proofs.Common.{◌≡◌, ◌≢◌, ℕ, Bool, false, ◌↔◌, ◌||◌, inl, inr, List, [], ◌∷◌, map, Option, Some, refl, sym, ap, ◌∙◌, subst, true≢false}
-use Rattle.std.proofs.Common.{IsTrue}
-use Rattle.std.proofs.Math.Bool.{or-false}
-use Rattle.std.proofs.lemmas.Bool.{false_from_ne_true}
-use Rattle.std.proofs.lemmas.List.Folds.{list_any-append}
-use Rattle.std.specs.List.{list_any}
-use Rattle.eco_ids.specs.declared.entity.Entity.{Entity}
-use Rattle.eco_ids.specs.declared.entity.TheConstants.{DELETE}
-use Rattle.eco_ids.specs.Cleanup.{Doomed, HoldsOn}
-use Rattle.eco_ids.specs.Indices.{Indexed}
-use Rattle.eco_ids.specs.Least.{Least, root, next}
-use Rattle.eco_ids.specs.Order.{entity_cmp, entity_eq, has_item, names_entity}
-use Rattle.eco_ids.specs.World.{Record, has}
-use Rattle.eco_ids.proofs.Ascending.{both, second}
-use Rattle.eco_ids.proofs.Facts.{any_is, or_left, or_parts, or_right}
-use Rattle.eco_ids.proofs.Overlaps.{entity_eq_is, entity_eq_itself}
-use Rattle.eco_tables.specs.Table.{TableRow, TableState, entities_of}
-use Rattle.eco_tables.specs.Tables.{slot_of, table_in}
-use Rattle.eco_index.specs.TypeTests.{type_names}
-use Rattle.eco_archetypes.specs.Archetypes.{row_at}
-use Rattle.eco_store.specs.Store.{IsShown}
-use Rattle.eco_cleanup.specs.Nodes.{AreStarts, IsSearch, falls, is_falling, is_naming, is_one_of, is_root, leads, node_same, taken_among}
-use Rattle.eco_cleanup.specs.Nodes.{taken_by, touches}
-use Rattle.eco_cleanup.specs.Policies.{names_on}
-use Rattle.eco_store.specs.Worlds.{world_of}
-use Rattle.eco_cleanup.specs.contracts.node.NodePartialEq.TheImpl as node_impl
-use Rattle.eco_cleanup.specs.declared.node.Node.{Node}
-use Rattle.eco_cleanup.specs.declared.node.Node.TheVariants.{Root, Falling, Named}
+use Rattle.eco_cleanup.proofs.Common.{◌≡◌, ◌≢◌, ℕ, Bool, false, ◌↔◌, ◌||◌, inl, inr, List, [], ◌∷◌, map, Option, Some, refl, sym}
+use Rattle.eco_cleanup.proofs.Common.{ap, ◌∙◌, subst, true≢false, IsTrue, or-false, false_from_ne_true, list_any-append, list_any, Entity, DELETE}
+use Rattle.eco_cleanup.proofs.Common.{Doomed, HoldsOn, Indexed, Least, root, next, entity_cmp, entity_eq, has_item, names_entity, Record, has, both, second}
+use Rattle.eco_cleanup.proofs.Common.{any_is, or_left, or_parts, or_right, entity_eq_is, entity_eq_itself, TableRow, TableState, entities_of, slot_of, table_in}
+use Rattle.eco_cleanup.proofs.Common.{type_names, row_at, IsShown, AreStarts, IsSearch, falls, is_falling, is_naming, is_one_of, is_root, leads, node_same}
+use Rattle.eco_cleanup.proofs.Common.{taken_among, taken_by, touches, names_on, world_of, Node, Root, Falling, Named}
 use Rattle.eco_cleanup.proofs.Noted.{node_itself, same_test}
 use Rattle.eco_cleanup.proofs.Roles.{names_on_exact, names_on_names}
 use Rattle.eco_cleanup.proofs.Standing.{any_id, found_at, has_at, row_of, some_id, stands_among, stands_with}
+use Rattle.eco_cleanup.specs.contracts.node.NodePartialEq.TheImpl as node_impl
 
 -- ---- who dies by some nodes
 

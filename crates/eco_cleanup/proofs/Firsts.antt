@@ -1,15 +1,10 @@
 -- The least of what may be there passes, and is below all that pass.
+use Rattle.eco_cleanup.proofs.Common.{◌≡◌, Bool, true, false, cond, ◌||◌, inl, inr, List, [], ◌∷◌, fold, Option, Some, None, refl, sym, ap}
+use Rattle.eco_cleanup.proofs.Common.{◌∙◌, subst, true≢false, IsTrue, Ordering, arith, or-false, or_assoc, IsTotalOrder, tied_itself, list_any, is_le}
+use Rattle.eco_cleanup.proofs.Common.{is_lt, ordering_reverse, or_parts, or_right, counted, former}
 use Rattle.std.proofs.lemmas.Grind.{common_steps}
-use Rattle.std.proofs.Common.{◌≡◌, Bool, true, false, cond, ◌||◌, inl, inr, List, [], ◌∷◌, fold, Option, Some, None, refl, sym, ap, ◌∙◌, subst, true≢false}
-use Rattle.std.proofs.Common.{IsTrue, Ordering, arith}
-use Rattle.std.proofs.Math.Bool.{or-false, or_assoc}
 use Rattle.std.proofs.lemmas.Bool.{or_left}
 use Rattle.std.specs.Bool.{IsFalse}
-use Rattle.std.specs.Cmp.{IsTotalOrder, tied_itself}
-use Rattle.std.specs.List.{list_any}
-use Rattle.std.specs.Ordering.{is_le, is_lt, ordering_reverse}
-use Rattle.eco_ids.proofs.Facts.{or_parts, or_right}
-use Rattle.eco_cleanup.specs.Firsts.{counted, former}
 
 below : (r : Ordering) → IsTrue (is_lt r) → IsTrue (is_le r)
 below r h = grind arith

@@ -1,37 +1,18 @@
 -- An objection that is found is one that the definitions know, and the least.
-use Rattle.std.proofs.Common.{arith, ◌≡◌, ℕ, Bool, true, false, not, ◌&&◌, List, Option, Some, None, refl, sym, ap, ◌∙◌, subst, true≢false, IsTrue, Ordering}
-use Rattle.std.proofs.Common.{Equal}
-use Rattle.std.specs.Cmp.{tied_itself}
-use Rattle.std.specs.List.{list_any}
-use Rattle.std.specs.Ordering.{is_le, ordering_then}
-use Rattle.eco_ids.specs.declared.entity.Entity.{Entity}
-use Rattle.eco_ids.specs.declared.entity.TheConstants.{PANIC}
-use Rattle.eco_ids.specs.Cleanup.{Forbids, IsDoomed}
-use Rattle.eco_ids.specs.Indices.{Indexed}
-use Rattle.eco_ids.specs.Order.{entity_cmp, has_item, names_entity}
-use Rattle.eco_ids.specs.World.{Record, has}
-use Rattle.eco_ids.proofs.Ascending.{both, first, second}
-use Rattle.eco_ids.proofs.Facts.{any_is, not_true}
+use Rattle.eco_cleanup.proofs.Common.{arith, ◌≡◌, ℕ, Bool, true, false, not, ◌&&◌, List, Option, Some, None, refl, sym, ap, ◌∙◌, subst}
+use Rattle.eco_cleanup.proofs.Common.{true≢false, IsTrue, Ordering, Equal, tied_itself, list_any, is_le, ordering_then, Entity, PANIC, Forbids, IsDoomed}
+use Rattle.eco_cleanup.proofs.Common.{Indexed, entity_cmp, has_item, names_entity, Record, has, both, first, second, any_is, not_true, TableState, entities_of}
+use Rattle.eco_cleanup.proofs.Common.{slot_of, table_in, type_names, IsShown, AreStarts, IsSearch, falls, is_falling, is_naming, is_one_of, node_same}
+use Rattle.eco_cleanup.proofs.Common.{taken_among, JudgesDelete, first_objection, names_on, world_of, Node, Root, Falling, Named, Objection}
 use Rattle.eco_ids.proofs.IdOrder.{entity_cmp_total}
 use Rattle.eco_ids.proofs.LivingLists.{has_alive}
-use Rattle.eco_tables.specs.Table.{TableState, entities_of}
-use Rattle.eco_tables.specs.Tables.{slot_of, table_in}
-use Rattle.eco_index.specs.TypeTests.{type_names}
-use Rattle.eco_store.specs.Store.{IsShown}
-use Rattle.eco_cleanup.specs.Nodes.{AreStarts, IsSearch, falls, is_falling, is_naming, is_one_of, node_same, taken_among}
-use Rattle.eco_cleanup.specs.Objections.{JudgesDelete, first_objection}
-use Rattle.eco_cleanup.specs.Policies.{names_on}
-use Rattle.eco_store.specs.Worlds.{world_of}
-use Rattle.eco_cleanup.specs.contracts.node.NodePartialEq.TheImpl as node_impl
-use Rattle.eco_cleanup.specs.declared.node.Node.{Node}
-use Rattle.eco_cleanup.specs.declared.node.Node.TheVariants.{Root, Falling, Named}
-use Rattle.eco_cleanup.specs.declared.objection.Objection.{Objection}
 use Rattle.eco_cleanup.proofs.Deaths.{doomed_exactly, spare, touched_there}
 use Rattle.eco_cleanup.proofs.Firsts.{IsFirst}
 use Rattle.eco_cleanup.proofs.Noted.{same_test}
 use Rattle.eco_cleanup.proofs.Objections.{objection_cmp_total, objection_first, objects, objects_at}
 use Rattle.eco_cleanup.proofs.Roles.{names_on_exact, names_on_names}
 use Rattle.eco_cleanup.proofs.Standing.{any_id, found_at, has_at, row_of, some_id, stands_among, stands_with}
+use Rattle.eco_cleanup.specs.contracts.node.NodePartialEq.TheImpl as node_impl
 
 le_first : (r s : Ordering) → IsTrue (is_le (ordering_then r s)) → IsTrue (is_le r)
 le_first r s h = grind arith

@@ -1,3 +1,4 @@
+pub mod Common
 pub mod Deaths
 pub mod Firsts
 pub mod Forbidden

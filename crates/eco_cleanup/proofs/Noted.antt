@@ -1,35 +1,18 @@
 -- What a root, or a table that falls, leads to.
-use Rattle.std.proofs.Common.{◌≡◌, ℕ, zero, suc, ◌+◌, ◌<◌, get_or, length, take, Bool, true, false, cond, not, nat_eq, nat_lt, ◌&&◌, ◌||◌, ◌↔◌, ◌⊎◌, inl, inr}
-use Rattle.std.proofs.Common.{List, [], ◌∷◌, ◌++◌, map, filter, flat_map, Option, Some, None}
-use Rattle.std.proofs.Common.{unwrap_or, option_map, is_some, refl, sym, ap, ◌∙◌, subst, true≢false, IsTrue, arith}
-use Rattle.std.proofs.Math.Bool.{and-false, and-true, or-false, or_assoc}
+use Rattle.eco_cleanup.proofs.Common.{◌≡◌, ℕ, zero, suc, ◌+◌, ◌<◌, get_or, length, take, Bool, true, false, cond, not, nat_eq, nat_lt, ◌&&◌}
+use Rattle.eco_cleanup.proofs.Common.{◌||◌, ◌↔◌, ◌⊎◌, inl, inr, List, [], ◌∷◌, ◌++◌, map, filter, flat_map, Option, Some, None}
+use Rattle.eco_cleanup.proofs.Common.{unwrap_or, option_map, is_some, refl, sym, ap, ◌∙◌, subst, true≢false, IsTrue, arith, and-false, and-true}
+use Rattle.eco_cleanup.proofs.Common.{or-false, or_assoc, Decides-eqb, list_any-append, list_any, Entity, Id, Is, Any, Pattern, entity_eq, names_entity}
+use Rattle.eco_cleanup.proofs.Common.{WorldState, first, any_is, or_parts, or_right, entity_eq_is, entity_eq_itself, TableState, entities_of, no_table, slot_of}
+use Rattle.eco_cleanup.proofs.Common.{table_in, type_names, is_found, is_found_by, type_at, type_matches, has_rows, AddsNodes, AreStarts, all_nodes, falls}
+use Rattle.eco_cleanup.proofs.Common.{is_naming, is_one_of, leads, named_node, nodes_at, nodes_from, touches, touches_by, Node, Root, Falling, Named}
 use Rattle.std.proofs.Math.Seq.{take-suc}
 use Rattle.std.proofs.lemmas.Bool.{or_left}
-use Rattle.std.proofs.lemmas.Bool.Decides.{Decides-eqb}
-use Rattle.std.proofs.lemmas.List.Folds.{list_any-append}
 use Rattle.std.proofs.lemmas.Map.Views.{any-filter_same}
-use Rattle.std.specs.List.{list_any}
-use Rattle.eco_ids.specs.declared.entity.Entity.{Entity}
-use Rattle.eco_ids.specs.declared.id.Id.{Id}
-use Rattle.eco_ids.specs.declared.id.Id.TheVariants as id
-use Rattle.eco_ids.specs.declared.pattern.Part.TheVariants.{Is, Any}
-use Rattle.eco_ids.specs.declared.pattern.Pattern.{Pattern}
 use Rattle.eco_ids.specs.declared.pattern.Pattern.TheVariants.{One, Two}
 use Rattle.eco_ids.specs.Matching.{pattern_matches}
-use Rattle.eco_ids.specs.Order.{entity_eq, names_entity}
 use Rattle.eco_ids.specs.OrderLaws.{entity_ties}
-use Rattle.eco_ids.specs.World.{WorldState}
-use Rattle.eco_ids.proofs.Ascending.{first}
-use Rattle.eco_ids.proofs.Facts.{any_is, or_parts, or_right}
-use Rattle.eco_ids.proofs.Overlaps.{entity_eq_is, entity_eq_itself}
-use Rattle.eco_tables.specs.Table.{TableState, entities_of}
-use Rattle.eco_tables.specs.Tables.{no_table, slot_of, table_in}
-use Rattle.eco_index.specs.TypeTests.{type_names}
-use Rattle.eco_archetypes.specs.Archetypes.{is_found, is_found_by, type_at, type_matches, has_rows}
-use Rattle.eco_cleanup.specs.Nodes.{AddsNodes, AreStarts, all_nodes, falls, is_naming, is_one_of, leads, named_node, nodes_at, nodes_from, touches}
-use Rattle.eco_cleanup.specs.Nodes.{touches_by}
-use Rattle.eco_cleanup.specs.declared.node.Node.{Node}
-use Rattle.eco_cleanup.specs.declared.node.Node.TheVariants.{Root, Falling, Named}
+use Rattle.eco_ids.specs.declared.id.Id.TheVariants as id
 use Rattle.eco_cleanup.specs.contracts.node.NodePartialEq.TheImpl as node_impl
 
 abbrev same_node : Node → Node → Bool

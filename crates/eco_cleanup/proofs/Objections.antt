@@ -1,30 +1,12 @@
 -- The objection that is found is the least of all.
-use Rattle.std.proofs.Common.{◌≡◌, Bool, true, false, cond, not, ◌&&◌, ◌||◌, List, [], ◌∷◌, Option, Some, None, refl, sym, ap, IsTrue, Ordering, arith}
-use Rattle.std.proofs.lemmas.Bool.{and_right}
+use Rattle.eco_cleanup.proofs.Common.{◌≡◌, Bool, true, false, cond, not, ◌&&◌, ◌||◌, List, [], ◌∷◌, Option, Some, None, refl, sym, ap}
+use Rattle.eco_cleanup.proofs.Common.{IsTrue, Ordering, arith, and_right, IsTotalOrder, list_any, is_le, ordering_then, Entity, ON_DELETE, ON_DELETE_TARGET}
+use Rattle.eco_cleanup.proofs.Common.{PANIC, Id, One, Two, policy, entity_cmp, entity_eq, has_item, WorldState, both, first, second, entity_eq_is}
+use Rattle.eco_cleanup.proofs.Common.{entity_eq_itself, TableState, entities_of, table_in, counted, former, is_falling, taken_among, first_objection}
+use Rattle.eco_cleanup.proofs.Common.{first_outside, first_protected, named_first, objection, objection_at, objection_cmp, objection_of, protects, names_on}
+use Rattle.eco_cleanup.proofs.Common.{Node, Root, Falling, Named, Objection}
 use Rattle.std.proofs.lemmas.Cmp.{on_total, then_total}
-use Rattle.std.specs.Cmp.{IsTotalOrder}
-use Rattle.std.specs.List.{list_any}
-use Rattle.std.specs.Ordering.{is_le, ordering_then}
-use Rattle.eco_ids.specs.declared.entity.Entity.{Entity}
-use Rattle.eco_ids.specs.declared.entity.TheConstants.{ON_DELETE, ON_DELETE_TARGET, PANIC}
-use Rattle.eco_ids.specs.declared.id.Id.{Id}
-use Rattle.eco_ids.specs.declared.id.Id.TheVariants.{One, Two}
-use Rattle.eco_ids.specs.Cleanup.{policy}
-use Rattle.eco_ids.specs.Order.{entity_cmp, entity_eq, has_item}
-use Rattle.eco_ids.specs.World.{WorldState}
-use Rattle.eco_ids.proofs.Ascending.{both, first, second}
 use Rattle.eco_ids.proofs.IdOrder.{entity_cmp_total}
-use Rattle.eco_ids.proofs.Overlaps.{entity_eq_is, entity_eq_itself}
-use Rattle.eco_tables.specs.Table.{TableState, entities_of}
-use Rattle.eco_tables.specs.Tables.{table_in}
-use Rattle.eco_cleanup.specs.Firsts.{counted, former}
-use Rattle.eco_cleanup.specs.Nodes.{is_falling, taken_among}
-use Rattle.eco_cleanup.specs.Objections.{first_objection, first_outside, first_protected, named_first, objection, objection_at, objection_cmp, objection_of}
-use Rattle.eco_cleanup.specs.Objections.{protects}
-use Rattle.eco_cleanup.specs.Policies.{names_on}
-use Rattle.eco_cleanup.specs.declared.node.Node.{Node}
-use Rattle.eco_cleanup.specs.declared.node.Node.TheVariants.{Root, Falling, Named}
-use Rattle.eco_cleanup.specs.declared.objection.Objection.{Objection}
 use Rattle.eco_cleanup.proofs.Noted.{spread_right}
 use Rattle.eco_cleanup.proofs.Firsts.{IsFirst, counted_first, first_alike, fold_first, former_first}
 

@@ -1,29 +1,12 @@
 -- One row of one table alone names an entity, by one id.
-use Rattle.std.proofs.Common.{◌≡◌, ℕ, Bool, true, false, true≢false, not, length, get_or, List, [], ◌∷◌, filter, slice_get, Option, Some, None}
-use Rattle.std.proofs.Common.{◌&&◌}
-use Rattle.std.proofs.Common.{IsTrue, IsFalse, refl, sym, ap, ◌∙◌, subst, arith}
-use Rattle.std.proofs.Math.Bool.{or-false}
-use Rattle.std.proofs.lemmas.Bool.{false_from_ne_true}
+use Rattle.eco_cleanup.proofs.Common.{◌≡◌, ℕ, Bool, true, false, true≢false, not, length, get_or, List, [], ◌∷◌, filter, slice_get, Option}
+use Rattle.eco_cleanup.proofs.Common.{Some, None, ◌&&◌, IsTrue, IsFalse, refl, sym, ap, ◌∙◌, subst, arith, or-false, false_from_ne_true, Entity}
+use Rattle.eco_cleanup.proofs.Common.{DELETE, PANIC, Id, Indexed, record_of, entity_cmp, entity_eq, has_item, id_cmp, id_eq, is_ascending, names_entity, Record}
+use Rattle.eco_cleanup.proofs.Common.{has, both, first, second, id_eq_is, id_eq_itself, or_left, TableRow, TableState, entities_of, slot_of, table_in, row_at}
+use Rattle.eco_cleanup.proofs.Common.{IsShown, world_of, falls, is_naming, touches, names_on, Node, Root, Falling, Named}
 use Rattle.std.proofs.lemmas.Map.Views.{any-filter_same}
-use Rattle.eco_ids.specs.declared.entity.Entity.{Entity}
-use Rattle.eco_ids.specs.declared.entity.TheConstants.{DELETE, PANIC}
-use Rattle.eco_ids.specs.declared.id.Id.{Id}
-use Rattle.eco_ids.specs.Indices.{Indexed, record_of}
-use Rattle.eco_ids.specs.Order.{entity_cmp, entity_eq, has_item, id_cmp, id_eq, is_ascending, names_entity}
-use Rattle.eco_ids.specs.World.{Record, has}
-use Rattle.eco_ids.proofs.Ascending.{both, first, second}
-use Rattle.eco_ids.proofs.Facts.{id_eq_is, id_eq_itself, or_left}
-use Rattle.eco_tables.specs.Table.{TableRow, TableState, entities_of}
-use Rattle.eco_tables.specs.Tables.{slot_of, table_in}
 use Rattle.eco_index.specs.TypeTests.{type_names as any_names}
-use Rattle.eco_archetypes.specs.Archetypes.{row_at}
-use Rattle.eco_store.specs.Store.{IsShown}
-use Rattle.eco_store.specs.Worlds.{world_of}
-use Rattle.eco_cleanup.specs.Nodes.{falls, is_naming, touches}
 use Rattle.eco_cleanup.specs.OnlyHolders.{IsOnlyHolder}
-use Rattle.eco_cleanup.specs.Policies.{names_on}
-use Rattle.eco_cleanup.specs.declared.node.Node.{Node}
-use Rattle.eco_cleanup.specs.declared.node.Node.TheVariants.{Root, Falling, Named}
 use Rattle.eco_cleanup.proofs.Deaths.{one_is, one_itself}
 use Rattle.eco_cleanup.proofs.Planned.{ids_standing}
 use Rattle.eco_cleanup.proofs.Standing.{any_id, found_at, has_at, row_of, stands_among, stands_with}

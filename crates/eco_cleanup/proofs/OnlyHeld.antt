@@ -1,32 +1,16 @@
 -- Who is named by one id of one other entity dies alone, and that id goes.
-use Rattle.std.proofs.Common.{◌≡◌, ℕ, ◌+◌, Bool, true, false, true≢false, cond, not, ◌⊎◌, List, [], ◌∷◌, filter, slice_get, slice_set, Option}
-use Rattle.std.proofs.Common.{Some, None, option_map, is_some, unwrap_or, IsTrue, refl, sym, ap, ◌∙◌, subst, inl, inr, arith}
-use Rattle.std.specs.FinMap.Entries.{is_sorted}
-use Rattle.std.proofs.Math.Bool.{or-false}
-use Rattle.std.proofs.lemmas.Bool.{false_from_ne_true}
-use Rattle.std.proofs.lemmas.Option.{same_Some}
-use Rattle.eco_ids.specs.declared.entity.Entity.{Entity}
-use Rattle.eco_ids.specs.declared.entity.TheConstants.{DELETE, PANIC}
-use Rattle.eco_ids.specs.declared.id.Id.{Id}
-use Rattle.eco_ids.specs.Cleanup.{after_delete, Forbids, HoldsOn, IsDoomed, names_any}
-use Rattle.eco_ids.specs.Indices.{Indexed, IndexState, Retired, Free, Living, change_kept, changed, is_alive, map_from, raised, record_of, with_death}
-use Rattle.eco_ids.specs.Least.{root}
-use Rattle.eco_ids.specs.Losses.{keeping, left_at, without}
-use Rattle.eco_ids.specs.Order.{entity_cmp, entity_eq, has_item, id_cmp, id_eq, names_entity, with_item, without_item}
-use Rattle.eco_ids.specs.World.{Record, WorldState, has, zeros}
+use Rattle.eco_cleanup.proofs.Common.{◌≡◌, ℕ, ◌+◌, Bool, true, false, true≢false, cond, not, ◌⊎◌, List, [], ◌∷◌, filter, slice_get}
+use Rattle.eco_cleanup.proofs.Common.{slice_set, Option, Some, None, option_map, is_some, unwrap_or, IsTrue, refl, sym, ap, ◌∙◌, subst, inl, inr, arith}
+use Rattle.eco_cleanup.proofs.Common.{is_sorted, or-false, false_from_ne_true, same_Some, Entity, DELETE, PANIC, Id, after_delete, Forbids, HoldsOn, IsDoomed}
+use Rattle.eco_cleanup.proofs.Common.{names_any, Indexed, IndexState, Retired, Free, Living, change_kept, changed, is_alive, map_from, raised, record_of}
+use Rattle.eco_cleanup.proofs.Common.{with_death, root, keeping, left_at, without, entity_cmp, entity_eq, has_item, id_cmp, id_eq, names_entity, with_item}
+use Rattle.eco_cleanup.proofs.Common.{without_item, Record, WorldState, has, zeros, sorted_is, keys_find, id_eq_is, id_eq_itself, or_left, or_right, to_T}
+use Rattle.eco_cleanup.proofs.Common.{entry_of, has_in, some_of, keeps_all, record_ids, with_toggled, with_type, world_of, names_on}
 use Rattle.eco_ids.proofs.AtPlaces.{get_left, same_number, same_places}
-use Rattle.eco_ids.proofs.Entries.{sorted_is}
-use Rattle.eco_ids.proofs.Exact.{keys_find}
-use Rattle.eco_ids.proofs.Facts.{id_eq_is, id_eq_itself, or_left, or_right, to_T}
-use Rattle.eco_ids.proofs.Keeps.{entry_of, has_in, some_of}
 use Rattle.eco_ids.proofs.Lists.{slice_get-set_other, slice_get-set_there}
-use Rattle.eco_ids.proofs.Losses.{keeps_all}
 use Rattle.eco_ids.proofs.Meaning.{least}
 use Rattle.eco_ids.proofs.States.{living_at, record_at, same_parts}
-use Rattle.eco_store.specs.Store.{record_ids, with_toggled, with_type}
-use Rattle.eco_store.specs.Worlds.{world_of}
 use Rattle.eco_cleanup.specs.OnlyHolders.{IsOnlyHolder}
-use Rattle.eco_cleanup.specs.Policies.{names_on}
 use Rattle.eco_cleanup.specs.declared.only_holder.OnlyHolder.{OnlyHolder}
 use Rattle.eco_cleanup.proofs.Deaths.{one_is, one_itself}
 use Rattle.eco_cleanup.proofs.Noted.{entity_eq_turns, same_test}

@@ -1,6 +1,6 @@
 -- Loops over a list that append a piece for each of its items.
-use Rattle.std.proofs.Common.{◌≡◌, ℕ, ◌+◌, ◌<◌, length, get_or, List, [], ◌++◌, flat_map, take, sym, ap, ◌∙◌}
-use Rattle.std.proofs.lemmas.List.{flat_map_more, take_more}
+use Rattle.eco_cleanup.proofs.Common.{◌≡◌, ℕ, ◌+◌, ◌<◌, length, get_or, List, [], ◌++◌, flat_map, take, sym, ap, ◌∙◌, flat_map_more}
+use Rattle.eco_cleanup.proofs.Common.{take_more}
 
 -- the piece of one more item
 pub one_piece : {X A : Type 0} (f : X → List A) (xs : List X) (n : ℕ) (d : X) (before after : List A) → n < length xs

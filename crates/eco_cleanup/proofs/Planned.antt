@@ -1,38 +1,19 @@
 -- What is found among the nodes is what a delete does.
-use Rattle.std.proofs.Common.{◌≡◌, ℕ, nat_lt, Bool, true, false, cond, not, length, ◌↔◌, ◌||◌, inl, inr, List, [], ◌∷◌, ◌++◌, map, flat_map, slice_get}
-use Rattle.std.proofs.Common.{Option, Some, None, unwrap_or, refl, sym, ap, ◌∙◌, subst, true≢false, IsTrue, IsFalse, arith}
-use Rattle.std.specs.List.{All, Contains, list_any}
-use Rattle.std.proofs.lemmas.List.{map-append}
+use Rattle.eco_cleanup.proofs.Common.{◌≡◌, ℕ, nat_lt, Bool, true, false, cond, not, length, ◌↔◌, ◌||◌, inl, inr, List, [], ◌∷◌}
+use Rattle.eco_cleanup.proofs.Common.{◌++◌, map, flat_map, slice_get, Option, Some, None, unwrap_or, refl, sym, ap, ◌∙◌, subst, true≢false, IsTrue}
+use Rattle.eco_cleanup.proofs.Common.{IsFalse, arith, All, Contains, list_any, map-append, none-some, Entity, Id, One, Two, Doomed, IsDoomed, after_delete}
+use Rattle.eco_cleanup.proofs.Common.{names_any, Indexed, record_of, without, Least, root, next, entity_cmp, entity_eq, has_item, names_entity, Record, first}
+use Rattle.eco_cleanup.proofs.Common.{second, or_left, or_parts, or_right, entity_eq_is, entity_eq_itself, RowsHaveIds, TableState, entities_of, TableRow}
+use Rattle.eco_cleanup.proofs.Common.{no_row, no_table, slot_of, table_in, is_found_by, IsShown, Stands, record_ids, TypeChange, AreStarts, IsSearch, falls}
+use Rattle.eco_cleanup.proofs.Common.{is_falling, is_naming, is_one_of, leads, node_same, taken_among, touches, Ascend, IsDeletePlan, TakesOut, TakesOutOfAll}
+use Rattle.eco_cleanup.proofs.Common.{change_in, changes_at, changes_of, spared, world_of, Node, Root, Falling, Named}
 use Rattle.std.proofs.lemmas.List.Elements.{All-nil, All-cons, All-append, Contains-append_left, Contains-append_right}
-use Rattle.std.proofs.lemmas.Option.{none-some}
-use Rattle.eco_ids.specs.declared.entity.Entity.{Entity}
-use Rattle.eco_ids.specs.declared.id.Id.{Id}
-use Rattle.eco_ids.specs.declared.id.Id.TheVariants.{One, Two}
-use Rattle.eco_ids.specs.Cleanup.{Doomed, IsDoomed, after_delete, names_any}
-use Rattle.eco_ids.specs.Indices.{Indexed, record_of}
-use Rattle.eco_ids.specs.Losses.{without}
-use Rattle.eco_ids.specs.Least.{Least, root, next}
-use Rattle.eco_ids.specs.Order.{entity_cmp, entity_eq, has_item, names_entity}
-use Rattle.eco_ids.specs.World.{Record}
-use Rattle.eco_ids.proofs.Ascending.{first, second}
-use Rattle.eco_ids.proofs.Facts.{or_left, or_parts, or_right}
-use Rattle.eco_ids.proofs.Overlaps.{entity_eq_is, entity_eq_itself}
-use Rattle.eco_tables.specs.Table.{RowsHaveIds, TableState, entities_of, TableRow}
-use Rattle.eco_tables.specs.Tables.{no_row, no_table, slot_of, table_in}
 use Rattle.eco_index.specs.TypeTests.{type_names as any_names}
-use Rattle.eco_archetypes.specs.Archetypes.{is_found_by}
-use Rattle.eco_store.specs.Store.{IsShown, Stands, record_ids}
-use Rattle.eco_store.specs.declared.type_change.TypeChange.{TypeChange}
-use Rattle.eco_cleanup.specs.Nodes.{AreStarts, IsSearch, falls, is_falling, is_naming, is_one_of, leads, node_same, taken_among, touches}
-use Rattle.eco_cleanup.specs.Plans.{Ascend, IsDeletePlan, TakesOut, TakesOutOfAll, change_in, changes_at, changes_of, spared}
-use Rattle.eco_store.specs.Worlds.{world_of}
-use Rattle.eco_cleanup.specs.contracts.node.NodePartialEq.TheImpl as node_impl
-use Rattle.eco_cleanup.specs.declared.node.Node.{Node}
-use Rattle.eco_cleanup.specs.declared.node.Node.TheVariants.{Root, Falling, Named}
 use Rattle.eco_cleanup.proofs.Deaths.{by_one, doomed_exactly, one_itself, some_entity, spare}
 use Rattle.eco_cleanup.proofs.Forbidden.{named_there}
 use Rattle.eco_cleanup.proofs.Noted.{node_itself, same_test}
 use Rattle.eco_cleanup.proofs.Standing.{any_id, found_at, some_id, stands_among}
+use Rattle.eco_cleanup.specs.contracts.node.NodePartialEq.TheImpl as node_impl
 
 -- ---- ids that name who dies
 

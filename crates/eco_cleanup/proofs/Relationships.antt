@@ -1,33 +1,14 @@
 -- Whether an id names a member under the policy Delete, asked of the relationships of which holders die with targets.
-use Rattle.std.proofs.Common.{arith, ◌≡◌, ℕ, Bool, true≢false, nat_eq, ◌&&◌, ◌||◌, inl, inr, List, slice_get, Option, Some, None, option_map}
-use Rattle.std.proofs.Common.{unwrap_or, IsTrue, refl, sym, ◌∙◌, subst}
-use Rattle.std.specs.List.{list_any}
-use Rattle.std.proofs.lemmas.Bool.Decides.{Decides-eqb}
-use Rattle.std.proofs.lemmas.Option.{none-some}
-use Rattle.eco_ids.specs.declared.entity.Entity.{Entity}
-use Rattle.eco_ids.specs.declared.entity.TheConstants.{DELETE, ON_DELETE, ON_DELETE_TARGET}
-use Rattle.eco_ids.specs.declared.id.Id.{Id}
-use Rattle.eco_ids.specs.declared.id.Id.TheVariants.{One, Two}
-use Rattle.eco_ids.specs.declared.pattern.Part.TheVariants.{Is}
-use Rattle.eco_ids.specs.declared.pattern.Pattern.{Pattern}
-use Rattle.eco_ids.specs.declared.pattern.Pattern.TheVariants as pattern
-use Rattle.eco_ids.specs.Cleanup.{policy}
-use Rattle.eco_ids.specs.Indices.{Indexed}
+use Rattle.eco_cleanup.proofs.Common.{arith, ◌≡◌, ℕ, Bool, true≢false, nat_eq, ◌&&◌, ◌||◌, inl, inr, List, slice_get, Option, Some, None}
+use Rattle.eco_cleanup.proofs.Common.{option_map, unwrap_or, IsTrue, refl, sym, ◌∙◌, subst, list_any, Decides-eqb, none-some, Entity, DELETE, ON_DELETE}
+use Rattle.eco_cleanup.proofs.Common.{ON_DELETE_TARGET, Id, One, Two, Is, Pattern, policy, Indexed, entity_cmp, entity_eq, has_item, id_cmp, Record, WorldState}
+use Rattle.eco_cleanup.proofs.Common.{has, both, first, second, any_is, or_left, or_parts, or_right, entity_eq_is, entity_eq_itself, TableRow, TableState}
+use Rattle.eco_cleanup.proofs.Common.{entities_of, no_table, slot_of, table_in, row_at, type_at, type_matches, IsShown, world_of, is_head, names_on}
 use Rattle.eco_ids.specs.Matching.{pattern_matches}
-use Rattle.eco_ids.specs.Order.{entity_cmp, entity_eq, has_item, id_cmp}
-use Rattle.eco_ids.specs.World.{Record, WorldState, has}
-use Rattle.eco_ids.proofs.Ascending.{both, first, second}
-use Rattle.eco_ids.proofs.Facts.{any_is, or_left, or_parts, or_right}
-use Rattle.eco_ids.proofs.Overlaps.{entity_eq_is, entity_eq_itself}
-use Rattle.eco_tables.specs.Table.{TableRow, TableState, entities_of}
-use Rattle.eco_tables.specs.Tables.{no_table, slot_of, table_in}
-use Rattle.eco_archetypes.specs.Archetypes.{row_at, type_at, type_matches}
-use Rattle.eco_store.specs.Store.{IsShown}
-use Rattle.eco_store.specs.Worlds.{world_of}
-use Rattle.eco_cleanup.specs.Policies.{is_head, names_on}
 use Rattle.eco_cleanup.proofs.Deaths.{any_entity, some_entity}
 use Rattle.eco_cleanup.proofs.Noted.{same_test}
 use Rattle.eco_cleanup.proofs.Standing.{any_id, has_at, row_of, some_id, stands_among, stands_with}
+use Rattle.eco_ids.specs.declared.pattern.Pattern.TheVariants as pattern
 
 -- what such a relationship has
 abbrev that : Id

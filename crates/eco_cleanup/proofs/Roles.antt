@@ -1,21 +1,10 @@
 -- Policies and roles, read off the ids of entities.
-use Rattle.std.proofs.Common.{◌≡◌, Bool, cond, ◌&&◌, ◌||◌, ◌↔◌, inl, inr, List, Option, Some, None, is_some, option_map, unwrap_or, sym, ap, ◌∙◌}
-use Rattle.std.proofs.Common.{subst, true≢false, IsTrue}
+use Rattle.eco_cleanup.proofs.Common.{◌≡◌, Bool, cond, ◌&&◌, ◌||◌, ◌↔◌, inl, inr, List, Option, Some, None, is_some, option_map, unwrap_or}
+use Rattle.eco_cleanup.proofs.Common.{sym, ap, ◌∙◌, subst, true≢false, IsTrue, Entity, ON_DELETE, ON_DELETE_TARGET, REMOVE, DELETE, PANIC, Id, One, Two}
+use Rattle.eco_cleanup.proofs.Common.{Names, policy, entity_eq, has_item, id_cmp, names_entity, WorldState, Record, has, both, first, second, keys_find}
+use Rattle.eco_cleanup.proofs.Common.{or_parts, or_right, has_in, entity_eq_is, entity_eq_itself, record_ids, chosen, names_on}
 use Rattle.std.proofs.lemmas.Bool.{or_left}
-use Rattle.eco_ids.specs.declared.entity.Entity.{Entity}
-use Rattle.eco_ids.specs.declared.entity.TheConstants.{ON_DELETE, ON_DELETE_TARGET, REMOVE, DELETE, PANIC}
-use Rattle.eco_ids.specs.declared.id.Id.{Id}
-use Rattle.eco_ids.specs.declared.id.Id.TheVariants.{One, Two}
-use Rattle.eco_ids.specs.Cleanup.{Names, policy}
-use Rattle.eco_ids.specs.Order.{entity_eq, has_item, id_cmp, names_entity}
-use Rattle.eco_ids.specs.World.{WorldState, Record, has, record_of}
-use Rattle.eco_ids.proofs.Ascending.{both, first, second}
-use Rattle.eco_ids.proofs.Exact.{keys_find}
-use Rattle.eco_ids.proofs.Facts.{or_parts, or_right}
-use Rattle.eco_ids.proofs.Keeps.{has_in}
-use Rattle.eco_ids.proofs.Overlaps.{entity_eq_is, entity_eq_itself}
-use Rattle.eco_store.specs.Store.{record_ids}
-use Rattle.eco_cleanup.specs.Policies.{chosen, names_on}
+use Rattle.eco_ids.specs.World.{record_of}
 
 -- ---- what an entity has
 

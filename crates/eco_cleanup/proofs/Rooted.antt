@@ -1,23 +1,10 @@
 -- Whole tables as the roots of a delete.
-use Rattle.std.proofs.Common.{◌≡◌, ℕ, Bool, nat_lt, length, List, map, Option, Some, None, unwrap_or, refl, sym, ap, ◌∙◌, subst, true≢false, IsTrue}
-use Rattle.std.specs.List.{list_any}
-use Rattle.eco_ids.specs.declared.entity.Entity.{Entity}
-use Rattle.eco_ids.specs.declared.id.Id.{Id}
-use Rattle.eco_ids.specs.declared.pattern.Pattern.{Pattern}
-use Rattle.eco_ids.specs.Indices.{Indexed, record_of}
+use Rattle.eco_cleanup.proofs.Common.{◌≡◌, ℕ, Bool, nat_lt, length, List, map, Option, Some, None, unwrap_or, refl, sym, ap, ◌∙◌, subst}
+use Rattle.eco_cleanup.proofs.Common.{true≢false, IsTrue, list_any, Entity, Id, Pattern, Indexed, record_of, entity_cmp, has_item, Record, second}
+use Rattle.eco_cleanup.proofs.Common.{RowsHaveIds, TableState, entities_of, no_table, slot_of, table_in, IsAllFound, is_found_by, entities_with, IsShown}
+use Rattle.eco_cleanup.proofs.Common.{Stands, record_ids, is_one_of, taken_among, Node, Root, Falling, Named}
 use Rattle.eco_ids.specs.Matching.{pattern_matches}
-use Rattle.eco_ids.specs.Order.{entity_cmp, has_item}
-use Rattle.eco_ids.specs.World.{Record}
-use Rattle.eco_ids.proofs.Ascending.{second}
 use Rattle.eco_ids.proofs.Passing.{own_from_passed, passed_from_own}
-use Rattle.eco_tables.specs.Table.{RowsHaveIds, TableState, entities_of}
-use Rattle.eco_tables.specs.Tables.{no_table, slot_of, table_in}
-use Rattle.eco_archetypes.specs.Archetypes.{IsAllFound, is_found_by}
-use Rattle.eco_store.specs.Holders.{entities_with}
-use Rattle.eco_store.specs.Store.{IsShown, Stands, record_ids}
-use Rattle.eco_cleanup.specs.Nodes.{is_one_of, taken_among}
-use Rattle.eco_cleanup.specs.declared.node.Node.{Node}
-use Rattle.eco_cleanup.specs.declared.node.Node.TheVariants.{Root, Falling, Named}
 use Rattle.eco_cleanup.proofs.Deaths.{Takes, by_one, by_which}
 use Rattle.eco_cleanup.proofs.Noted.{no_others, same_test, tables_are}
 use Rattle.eco_cleanup.proofs.Planned.{ids_standing}

@@ -1,25 +1,11 @@
 -- Who stands in which table, and which ids that gives.
-use Rattle.std.proofs.Common.{◌≡◌, ℕ, zero, suc, Bool, nat_lt, List, [], ◌∷◌, length, slice_get, Option, Some, None, unwrap_or, refl, sym, ap, ◌∙◌, subst}
-use Rattle.std.proofs.Common.{true≢false, IsTrue, arith, inl, inr}
-use Rattle.std.specs.List.{list_any}
+use Rattle.eco_cleanup.proofs.Common.{◌≡◌, ℕ, zero, suc, Bool, nat_lt, List, [], ◌∷◌, length, slice_get, Option, Some, None, unwrap_or, refl, sym}
+use Rattle.eco_cleanup.proofs.Common.{ap, ◌∙◌, subst, true≢false, IsTrue, arith, inl, inr, list_any, nat_tests, none-some, same_Some, Entity, Id}
+use Rattle.eco_cleanup.proofs.Common.{Indexed, entity_cmp, entity_eq, has_item, id_cmp, id_eq, Record, has, both, keys, keys_find, any_is, id_eq_is}
+use Rattle.eco_cleanup.proofs.Common.{id_eq_itself, or_parts, or_right, has_in, entity_eq_is, entity_eq_itself, TableRow, RowsHaveIds, TableState, entities_of}
+use Rattle.eco_cleanup.proofs.Common.{no_row, no_table, table_in, is_found_by, row_at, IsShown, Stands, world_of}
 use Rattle.std.proofs.lemmas.Bool.{or_left}
-use Rattle.std.proofs.lemmas.Bool.Decides.{nat_tests}
-use Rattle.std.proofs.lemmas.Option.{none-some, same_Some}
-use Rattle.eco_ids.specs.declared.entity.Entity.{Entity}
-use Rattle.eco_ids.specs.declared.id.Id.{Id}
-use Rattle.eco_ids.specs.Indices.{Indexed}
-use Rattle.eco_ids.specs.Order.{entity_cmp, entity_eq, has_item, id_cmp, id_eq}
-use Rattle.eco_ids.specs.World.{Record, has, record_of}
-use Rattle.eco_ids.proofs.Ascending.{both}
-use Rattle.eco_ids.proofs.Exact.{keys, keys_find}
-use Rattle.eco_ids.proofs.Facts.{any_is, id_eq_is, id_eq_itself, or_parts, or_right}
-use Rattle.eco_ids.proofs.Keeps.{has_in}
-use Rattle.eco_ids.proofs.Overlaps.{entity_eq_is, entity_eq_itself}
-use Rattle.eco_tables.specs.Table.{TableRow, RowsHaveIds, TableState, entities_of}
-use Rattle.eco_tables.specs.Tables.{no_row, no_table, table_in}
-use Rattle.eco_archetypes.specs.Archetypes.{is_found_by, row_at}
-use Rattle.eco_store.specs.Store.{IsShown, Stands}
-use Rattle.eco_store.specs.Worlds.{world_of}
+use Rattle.eco_ids.specs.World.{record_of}
 
 -- ---- ids of a type
 

@@ -1,32 +1,18 @@
 -- Entities die, and ids go from the types of the others.
-use Rattle.std.proofs.Common.{◌≡◌, ◌≢◌, ℕ, suc, ◌+◌, Bool, true, false, true≢false, cond, not, ◌||◌, T, List, [], ◌∷◌, map, filter, fold}
-use Rattle.std.proofs.Common.{get_or, slice_get, Some, unwrap_or, nat_lt, IsTrue, refl, sym, ap, ◌∙◌, arith}
-use Rattle.std.specs.List.{All, Contains, list_any}
-use Rattle.std.specs.FinMap.Entries.{find, where_key, is_sorted}
-use Rattle.std.proofs.lemmas.Bool.{false_from_ne_true}
+use Rattle.eco_cleanup.proofs.Common.{◌≡◌, ◌≢◌, ℕ, suc, ◌+◌, Bool, true, false, true≢false, cond, not, ◌||◌, T, List, [], ◌∷◌}
+use Rattle.eco_cleanup.proofs.Common.{map, filter, fold, get_or, slice_get, Some, unwrap_or, nat_lt, IsTrue, refl, sym, ap, ◌∙◌, arith, All, Contains}
+use Rattle.eco_cleanup.proofs.Common.{list_any, find, where_key, is_sorted, false_from_ne_true, Entity, Id, Indexed, IndexState, Retired, Free, Living}
+use Rattle.eco_cleanup.proofs.Common.{map_from, map_state, raised, record_of, keeping, left_at, id_cmp, is_ascending, Record, zeros, first_T, second_T, apart}
+use Rattle.eco_cleanup.proofs.Common.{sorted_is, keys, keys_find, id_eq_itself, to_T, keeps_all, record_ids, with_type, TypeChange, TakesOut, TakesOutOfAll}
 use Rattle.std.proofs.lemmas.Map.Made.{Contains-tail}
 use Rattle.std.proofs.lemmas.List.Elements.{All-contains, All-head, All-map, All-tail}
-use Rattle.eco_ids.specs.declared.entity.Entity.{Entity}
-use Rattle.eco_ids.specs.declared.id.Id.{Id}
 use Rattle.eco_ids.specs.declared.value.Value.{Value}
-use Rattle.eco_ids.specs.Indices.{Indexed, IndexState, Retired, Free, Living, map_from, map_state, raised, record_of}
-use Rattle.eco_ids.specs.Losses.{keeping, left_at}
-use Rattle.eco_ids.specs.Order.{id_cmp, is_ascending}
-use Rattle.eco_ids.specs.World.{Record, zeros}
-use Rattle.eco_ids.proofs.Ascending.{first_T, second_T}
-use Rattle.eco_ids.proofs.Entries.{apart, sorted_is}
-use Rattle.eco_ids.proofs.Exact.{keys, keys_find}
-use Rattle.eco_ids.proofs.Facts.{id_eq_itself, to_T}
-use Rattle.eco_ids.proofs.Losses.{keeps_all}
 use Rattle.eco_ids.proofs.SameIds.{same_ids-Decides}
 use Rattle.eco_ids.proofs.States.{record_at}
 use Rattle.eco_tables.specs.Column.{value_in, retyped}
 use Rattle.eco_index.specs.TypeMap.{same_ids}
 use Rattle.eco_store.specs.Deaths.{after_deaths, death_at}
 use Rattle.eco_store.specs.Retyping.{after_change, after_changes, changed_record, IsOneWay}
-use Rattle.eco_store.specs.Store.{record_ids, with_type}
-use Rattle.eco_store.specs.declared.type_change.TypeChange.{TypeChange}
-use Rattle.eco_cleanup.specs.Plans.{TakesOut, TakesOutOfAll}
 use Rattle.eco_cleanup.proofs.Standing.{any_id}
 
 abbrev Held : Type 0

@@ -6,7 +6,8 @@ ghost use Rattle.eco_ids.specs.declared.entity.Entity.{Entity as EntityData};
 ghost use Rattle.eco_tables.specs.Tables.{table_in};
 ghost use Rattle.eco_store.specs.Store.{IsShown};
 ghost use Rattle.eco_cleanup.specs.Nodes.{taken_among, AreStarts, IsSearch};
-ghost use Rattle.eco_cleanup.specs.Objections.{AnswersDelete, first_objection, first_outside, first_protected, named_first, objection_at, objection_of, protects};
+ghost use Rattle.eco_cleanup.specs.Objections.{AnswersDelete, first_objection, first_outside, first_protected};
+ghost use Rattle.eco_cleanup.specs.Objections.{named_first, objection_at, objection_of, protects};
 ghost use Rattle.eco_store.specs.Worlds.{world_of};
 
 use crate::doomed::Doomed;

@@ -1,9 +1,7 @@
 -- One read or write after another.
-use Rattle.std.proofs.Common.{◌≡◌, ℕ, subst, List, [], ◌++◌, ◌+◌, take, drop, Option, sym}
-use Rattle.std.proofs.KnownBytes.{Appends-kept, Appends-trans, Consumes-trans}
+use Rattle.eco_devices.proofs.Common.{◌≡◌, ℕ, subst, List, [], ◌++◌, ◌+◌, take, drop, Option, sym, Appends-kept, Appends-trans, Consumes-trans}
+use Rattle.eco_devices.proofs.Common.{append-nil, take-append-drop, Appends, Consumes, Keeps}
 use Rattle.std.proofs.Math.Seq.{take-add}
-use Rattle.std.proofs.lemmas.List.{append-nil, take-append-drop}
-use Rattle.std.specs.Io.KnownBytes.{Appends, Consumes, Keeps}
 use Rattle.eco_devices.specs.Beginning.{IsBeginning}
 
 pub Consumes-more : (a b c : Option (List ℕ)) (xs ys zs : List ℕ) → zs ≡ xs ++ ys → Consumes a b xs → Consumes b c ys → Consumes a c zs

@@ -1,17 +1,15 @@
 -- One bit of a list of words: set, cleared, and what the word around it then is.
-use Rattle.std.proofs.lemmas.Grind.{common_steps}
-use Rattle.std.proofs.Common.{◌≡◌, ◌≢◌, ℕ, ◌+◌, ◌-◌, ◌*◌, ◌/◌, ◌%◌, ◌^◌, ◌<◌, ◌≤◌, zero, suc, ◌==◌, Bool, true, false, nat_lt, Option, Some, None, MatchOption}
-use Rattle.std.proofs.Common.{cond, List, [], ◌∷◌, length, set, get_or, refl, sym, ap, ◌∙◌, inl, inr, min, max, arith, lit<, eq-eqb, eqb-true, replicate, ◌++◌}
-use Rattle.std.proofs.lemmas.Bool.{cases_eq, cases_lt, lt-ltb, ltb-true, ltb-false}
+use Rattle.eco_entities.proofs.Common.{common_steps, ◌≡◌, ◌≢◌, ℕ, ◌+◌, ◌-◌, ◌*◌, ◌/◌, ◌%◌, ◌^◌, ◌<◌, ◌≤◌, zero}
+use Rattle.eco_entities.proofs.Common.{suc, ◌==◌, Bool, true, false, nat_lt, Option, Some, None, MatchOption, cond, List, [], ◌∷◌, length, set}
+use Rattle.eco_entities.proofs.Common.{get_or, refl, sym, ap, ◌∙◌, inl, inr, min, max, arith, lit<, eq-eqb, eqb-true, replicate, ◌++◌, cases_eq}
+use Rattle.eco_entities.proofs.Common.{cases_lt, lt-ltb, ltb-true, ltb-false, or_zero_r, position_from, FillsBits, IsFirstWord, IsLowestBit, Summarizes}
 use Rattle.std.proofs.lemmas.List.{get_or-set_same, get_or-set_other, get_or_past, length-set}
 use Rattle.std.proofs.lemmas.Nat.Bits.{bit_at-zero, bit_at-lt, bit_at_set_same, bit_at_set_other, bit_at_clear_same, bit_at_clear_other, bit_at_or}
 use Rattle.std.proofs.lemmas.Nat.Bits.{bit_at_mask_inside, bit_at_mask_below, bit_at_mask_above, bit_at-trailing_zeros}
 use Rattle.std.proofs.Math.Nat.{pow-le-pow_right}
 use Rattle.std.proofs.lemmas.Nat.{pow_pos, and_le_l}
-use Rattle.std.specs.Int.Bits.{or_zero_r}
-use Rattle.std.specs.List.{position_from}
 use Rattle.std.specs.Int.{bit_at, w64, trailing_zeros}
-use Rattle.eco_entities.specs.Words.{has_bit, with_bit, without_bit, range_mask, FillsBits, IsFirstWord, IsLowestBit, Summarizes}
+use Rattle.eco_entities.specs.Words.{has_bit, with_bit, without_bit, range_mask}
 
 -- a bit is set where the number's bit is 1
 -- equal words have equal bits

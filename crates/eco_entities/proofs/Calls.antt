@@ -1,15 +1,9 @@
 -- What holds between an index and what each kind of change makes of it holds between it and what a call makes of it.
-use Rattle.std.proofs.Common.{◌≡◌, ℕ, ◌+◌, Option, Some, None, List, inl, inr, length, nat_lt, nat_le, Result, Ok, Err, IsTrue, MatchOption, true, false, refl}
-use Rattle.std.proofs.lemmas.Bool.{cases_Bool, MatchBool-at_true, MatchBool-at_false}
-use Rattle.eco_ids.specs.declared.entity.Entity.{Entity}
-use Rattle.eco_ids.specs.declared.refusal.Refusal.{Refusal}
-use Rattle.eco_ids.specs.declared.refusal.Refusal.TheVariants.{Taken, NoMoreIds}
-use Rattle.eco_ids.specs.Births.{may_make, Admits, may_admit, unfit_name}
-use Rattle.eco_ids.specs.Indices.{Indexed, record_of, is_alive, is_free_at, next_entity, with_record, with_new, with_death, admitted, changed, change_kept}
-use Rattle.eco_ids.specs.Outcome.{Refuses, Answers, is_out_of_memory}
-use Rattle.eco_ids.specs.Renaming.{unfit_rename, may_rename}
-use Rattle.eco_entities.specs.Registration.{Registration, newcomer, given_name, placed, renamed}
-use Rattle.eco_entities.specs.Runs.{Call, Create, Admit, MakeAlive, Kill, Rename, SetPlace, LeadsTo}
+use Rattle.eco_entities.proofs.Common.{◌≡◌, ℕ, ◌+◌, Option, Some, None, List, inl, inr, length, nat_lt, nat_le, Result, Ok, Err, IsTrue}
+use Rattle.eco_entities.proofs.Common.{MatchOption, true, false, refl, cases_Bool, MatchBool-at_true, MatchBool-at_false, Entity, Refusal, Taken, NoMoreIds}
+use Rattle.eco_entities.proofs.Common.{may_make, Admits, may_admit, unfit_name, Indexed, record_of, is_alive, is_free_at, next_entity, with_record, with_new}
+use Rattle.eco_entities.proofs.Common.{with_death, admitted, changed, change_kept, Refuses, Answers, is_out_of_memory, unfit_rename, may_rename, Registration}
+use Rattle.eco_entities.proofs.Common.{newcomer, given_name, placed, renamed, Call, Create, Admit, MakeAlive, Kill, Rename, SetPlace, LeadsTo}
 use Rattle.eco_entities.proofs.Kept.{next_has_room, IsRoom, with_room}
 
 module _ (P : Indexed Registration → Indexed Registration → Type 0) (stays : (w : Indexed Registration) → P w w)

@@ -1,7 +1,5 @@
 -- What is found in a map, and in a copy of it.
-use Rattle.std.proofs.Common.{◌≡◌, Bool, true, false, cond, List, [], ◌∷◌, Option, Some, option_map, refl, ap, ◌∙◌}
-use Rattle.std.specs.List.{AllZip}
-use Rattle.std.specs.Map.{lookup}
+use Rattle.eco_entities.proofs.Common.{◌≡◌, Bool, true, false, cond, List, [], ◌∷◌, Option, Some, option_map, refl, ap, ◌∙◌, AllZip, lookup}
 
 -- what is read off a value that is found is the same in a copy whose entries agree in it, and in what the test says of their keys
 lookup_copied : {K X Y : Type 0} (R : K × X → K × X → Type 0) (of : Option X → Y) (test : K → Bool)

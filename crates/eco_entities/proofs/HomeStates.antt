@@ -1,14 +1,8 @@
 -- What a slot shows of where its entity is kept.
-use Rattle.std.proofs.Common.{◌≡◌, ℕ, ◌<◌, true, false, cond, List, length, get_or, slice_get, refl, sym, ap, ◌∙◌}
-use Rattle.std.proofs.Common.{Option, Some, None, option_map, option_and_then}
+use Rattle.eco_entities.proofs.Common.{◌≡◌, ℕ, ◌<◌, true, false, cond, List, length, get_or, slice_get, refl, sym, ap, ◌∙◌, Option, Some}
+use Rattle.eco_entities.proofs.Common.{None, option_map, option_and_then, slice_get-get_or, Entity, Indexed, Living, record_in, Place, Slot, Registration}
+use Rattle.eco_entities.proofs.Common.{entity_at, entity_in, own_place, is_living, place_in, registration_of, state_of}
 use Rattle.std.proofs.lemmas.Bool.Decides.{Decides-eqb}
-use Rattle.std.proofs.lemmas.Option.{slice_get-get_or}
-use Rattle.eco_ids.specs.declared.entity.Entity.{Entity}
-use Rattle.eco_ids.specs.Indices.{Indexed, Living, record_in}
-use Rattle.eco_entities.specs.declared.place.Place.{Place}
-use Rattle.eco_entities.specs.declared.slot.Slot.{Slot}
-use Rattle.eco_entities.specs.Registration.{Registration, entity_at, entity_in, own_place}
-use Rattle.eco_entities.specs.Slots.{is_living, place_in, registration_of, state_of}
 use Rattle.eco_entities.proofs.Shown.{Names, Shows, length-states, living_shows, nobody_shows, slice_get-states}
 
 -- who lives at an index, with its place

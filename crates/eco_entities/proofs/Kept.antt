@@ -1,15 +1,9 @@
 -- What is kept of each entity after a change of one state.
-use Rattle.std.proofs.lemmas.Grind.{common_steps}
-use Rattle.std.proofs.Common.{◌≡◌, ◌≢◌, ℕ, zero, suc, ◌<◌, ◌≤◌, true, cond, List, [], ◌∷◌, ◌++◌, length, set, slice_get, slice_set, replicate}
-use Rattle.std.proofs.Common.{refl, sym, ap, ◌∙◌, Some, None, inl, inr, arith, eq-eqb, nat_lt, if◌then◌else◌}
-use Rattle.std.proofs.lemmas.Bool.{cases_eq, ne_eqb, lt-ltb, le-ltb, cond-true, cond-false}
-use Rattle.std.proofs.lemmas.Option.{slice_get_within}
-use Rattle.eco_ids.specs.declared.entity.Entity.{Entity}
-use Rattle.eco_ids.specs.Indices.{Indexed, IndexState, Free, Living, record_in, record_of, is_alive, is_free_in, is_free_at, with_record, with_death}
-use Rattle.eco_ids.specs.Indices.{with_new, admitted, raised, next_entity}
-use Rattle.eco_entities.specs.Changes.{ChangesAt, KeepsAnswers}
-use Rattle.eco_ids.proofs.Lists.{slice_get-set_same, slice_get-set_other}
-use Rattle.eco_ids.proofs.States.{record_here}
+use Rattle.eco_entities.proofs.Common.{common_steps, ◌≡◌, ◌≢◌, ℕ, zero, suc, ◌<◌, ◌≤◌, true, cond, List, [], ◌∷◌, ◌++◌}
+use Rattle.eco_entities.proofs.Common.{length, set, slice_get, slice_set, replicate, refl, sym, ap, ◌∙◌, Some, None, inl, inr, arith, eq-eqb, nat_lt}
+use Rattle.eco_entities.proofs.Common.{if◌then◌else◌, cases_eq, ne_eqb, lt-ltb, le-ltb, cond-true, cond-false, slice_get_within, Entity, Indexed}
+use Rattle.eco_entities.proofs.Common.{IndexState, Free, Living, record_in, record_of, is_alive, is_free_in, is_free_at, with_record, with_death, with_new}
+use Rattle.eco_entities.proofs.Common.{admitted, raised, next_entity, ChangesAt, KeepsAnswers, slice_get-set_same, slice_get-set_other, record_here}
 use Rattle.eco_entities.proofs.States.{free_known, alive_known, next_is}
 
 living_else : {A : Type 0} (f g : ℕ) (r : A) → g ≢ f → record_in (Some (Living f r)) g ≡ None

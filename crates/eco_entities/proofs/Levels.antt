@@ -1,15 +1,13 @@
 -- The three levels of a set of free indices: what each change leaves of them, and of the flags that they show.
-use Rattle.std.proofs.Common.{rules}
-use Rattle.std.proofs.lemmas.Grind.{common_steps}
-use Rattle.std.proofs.Common.{◌≡◌, ℕ, zero, suc, ◌+◌, ◌-◌, ◌*◌, ◌/◌, ◌%◌, ◌^◌, ◌<◌, ◌≤◌, Bool, true, false, List, [], ◌∷◌, ◌++◌, length, get_or, take}
-use Rattle.std.proofs.Common.{replicate, slice_set, refl, sym, ap, ◌∙◌, inl, inr, min, Some, None, arith}
-use Rattle.std.specs.List.{position_from}
-use Rattle.std.proofs.lemmas.Bool.{cases_eq, cases_lt, false≢true}
+use Rattle.eco_entities.proofs.Common.{rules, common_steps, ◌≡◌, ℕ, zero, suc, ◌+◌, ◌-◌, ◌*◌, ◌/◌, ◌%◌, ◌^◌, ◌<◌, ◌≤◌}
+use Rattle.eco_entities.proofs.Common.{Bool, true, false, List, [], ◌∷◌, ◌++◌, length, get_or, take, replicate, slice_set, refl, sym, ap, ◌∙◌}
+use Rattle.eco_entities.proofs.Common.{inl, inr, min, Some, None, arith, position_from, cases_eq, cases_lt, false≢true, with_bit, without_bit, FillsBits}
+use Rattle.eco_entities.proofs.Common.{IsLowestBit, Summarizes}
 use Rattle.std.proofs.lemmas.List.{append-nil, take_all, same_lists, length-set, length-append, length-replicate, length-take, get_or-set_same}
 use Rattle.std.proofs.lemmas.List.{get_or-set_other, get_or_append_left, get_or-append_right, get_or-replicate, get_or-take}
 use Rattle.std.proofs.lemmas.List.FromFn.{length-map-range_with_len, get_or-map-range_with_len}
 use Rattle.std.proofs.lemmas.Nat.Bits.{bit_at-zero}
-use Rattle.eco_entities.specs.Words.{has_bit, with_bit, without_bit, FillsBits, IsLowestBit, Summarizes}
+use Rattle.eco_entities.specs.Words.{has_bit}
 use Rattle.eco_entities.specs.FreeBits.{bits_below, IsLevelled}
 use Rattle.eco_entities.proofs.Bits.{length-with_bit, length-without_bit, has_bit-with_bit_same, has_bit-with_bit_other, has_bit-without_bit_same}
 use Rattle.eco_entities.proofs.Bits.{has_bit-without_bit_other, has_bit-fill_inside, has_bit-fill_below, has_bit-fill_above, has_bit-appended}

@@ -1,3 +1,4 @@
+pub mod Common
 pub mod NamedEntities
 pub mod Needs
 pub mod Bits

@@ -1,20 +1,10 @@
 -- A handle that was killed stays dead.
-use Rattle.std.proofs.lemmas.Grind.{common_steps}
-use Rattle.std.proofs.Common.{◌≡◌, ◌≢◌, ℕ, zero, suc, ◌+◌, ◌<◌, ◌≤◌, Bool, true, false, List, [], ◌∷◌, ◌++◌, slice_get, slice_set, replicate}
-use Rattle.std.proofs.Common.{refl, Option, Some, None, is_some, arith, Ok, Err, if◌then◌else◌, MatchOption}
-use Rattle.std.proofs.lemmas.Bool.{cases_eq, ne_eqb}
-use Rattle.std.proofs.lemmas.Option.{slice_get_within}
-use Rattle.eco_ids.specs.declared.entity.Entity.{Entity}
-use Rattle.eco_ids.specs.declared.refusal.Refusal.{Refusal}
-use Rattle.eco_ids.specs.declared.refusal.Refusal.TheVariants.{NoMoreIds}
-use Rattle.eco_ids.specs.Births.{unfit_name}
-use Rattle.eco_ids.specs.Indices.{Indexed, IndexState, Retired, Free, Living, record_in, record_of, is_alive, is_free_at, next_entity, with_record, with_new}
-use Rattle.eco_ids.specs.Indices.{with_death, admitted}
-use Rattle.eco_ids.specs.Outcome.{Refuses, Answers}
-use Rattle.eco_entities.specs.Registration.{Registration, newcomer, given_name}
-use Rattle.eco_entities.specs.Runs.{Call, LeadsTo, RunsTo, NobodyLivesTwice}
-use Rattle.eco_ids.proofs.Lists.{slice_get-set_same, slice_get-set_other}
-use Rattle.eco_ids.proofs.States.{living_at}
+use Rattle.eco_entities.proofs.Common.{common_steps, ◌≡◌, ◌≢◌, ℕ, zero, suc, ◌+◌, ◌<◌, ◌≤◌, Bool, true, false, List, [], ◌∷◌}
+use Rattle.eco_entities.proofs.Common.{◌++◌, slice_get, slice_set, replicate, refl, Option, Some, None, is_some, arith, Ok, Err, if◌then◌else◌}
+use Rattle.eco_entities.proofs.Common.{MatchOption, cases_eq, ne_eqb, slice_get_within, Entity, Refusal, NoMoreIds, unfit_name, Indexed, IndexState, Retired}
+use Rattle.eco_entities.proofs.Common.{Free, Living, record_in, record_of, is_alive, is_free_at, next_entity, with_record, with_new, with_death, admitted}
+use Rattle.eco_entities.proofs.Common.{Refuses, Answers, Registration, newcomer, given_name, Call, LeadsTo, RunsTo, NobodyLivesTwice, slice_get-set_same}
+use Rattle.eco_entities.proofs.Common.{slice_get-set_other, living_at}
 use Rattle.eco_entities.proofs.States.{free_known, alive_known, next_is}
 use Rattle.eco_entities.proofs.Calls.{called}
 

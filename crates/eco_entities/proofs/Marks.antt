@@ -1,21 +1,13 @@
 -- The marks of the free indices: they follow each change of a state.
-use Rattle.std.proofs.Common.{rules}
-use Rattle.std.proofs.lemmas.Grind.{common_steps}
-use Rattle.std.proofs.Common.{◌≡◌, ℕ, zero, suc, ◌+◌, ◌-◌, ◌<◌, ◌≤◌, Bool, true, false, List, [], ◌∷◌, ◌++◌, length, set, take, get_or, slice_get, slice_set}
-use Rattle.std.proofs.Common.{replicate, map, refl, sym, ap, ◌∙◌, Option, Some, None, MatchOption, option_map, ◌⊎◌, inl, inr, arith, nat_lt, if◌then◌else◌}
-use Rattle.std.specs.List.{position_from}
-use Rattle.std.specs.Option.{option_or}
-use Rattle.std.proofs.lemmas.Bool.{cases_Bool, cases_eq, ltb-true, ltb-false, lt-ltb, le-ltb, cond-true, cond-false}
+use Rattle.eco_entities.proofs.Common.{rules, common_steps, ◌≡◌, ℕ, zero, suc, ◌+◌, ◌-◌, ◌<◌, ◌≤◌, Bool, true, false, List, []}
+use Rattle.eco_entities.proofs.Common.{◌∷◌, ◌++◌, length, set, take, get_or, slice_get, slice_set, replicate, map, refl, sym, ap, ◌∙◌, Option}
+use Rattle.eco_entities.proofs.Common.{Some, None, MatchOption, option_map, ◌⊎◌, inl, inr, arith, nat_lt, if◌then◌else◌, position_from, option_or}
+use Rattle.eco_entities.proofs.Common.{cases_Bool, cases_eq, ltb-true, ltb-false, lt-ltb, le-ltb, cond-true, cond-false, same_Some, slice_get_within}
+use Rattle.eco_entities.proofs.Common.{slice_get_past, slice_get_read, get_or_from_slice_get, Entity, Indexed, IndexState, Retired, Free, Living, lowest_free}
+use Rattle.eco_entities.proofs.Common.{next_entity, admitted, is_alive, is_free_at, map_state, raised, with_death, with_new, with_record, changed, Registration}
+use Rattle.eco_entities.proofs.Common.{renamed, IsMarked, GenerationFits, is_free, is_named, next_generation, put_at, state_of, states, IsNextSlot, Slot}
+use Rattle.eco_entities.proofs.Common.{Inside, slice_get-set_same, slice_get-set_other, map-replicate}
 use Rattle.std.proofs.lemmas.List.{length-append, length-replicate, take_at, length-map, get_or-map, length-set, map-set, set-get_or, map-append}
-use Rattle.std.proofs.lemmas.Option.{same_Some, slice_get_within, slice_get_past, slice_get_read, get_or_from_slice_get}
-use Rattle.eco_ids.specs.declared.entity.Entity.{Entity}
-use Rattle.eco_ids.specs.Indices.{Indexed, IndexState, Retired, Free, Living, lowest_free, next_entity, admitted, is_alive, is_free_at, map_state, raised}
-use Rattle.eco_ids.specs.Indices.{with_death, with_new, with_record, changed}
-use Rattle.eco_entities.specs.Registration.{Registration, renamed}
-use Rattle.eco_entities.specs.Slots.{IsMarked, GenerationFits, is_free, is_named, next_generation, put_at, state_of, states, IsNextSlot}
-use Rattle.eco_entities.specs.declared.slot.Slot.{Slot}
-use Rattle.eco_entities.specs.declared.slots.Slots.TheInside.{Inside}
-use Rattle.eco_ids.proofs.Lists.{slice_get-set_same, slice_get-set_other, map-replicate}
 use Rattle.eco_entities.proofs.Shown.{AgreeBeside, Names, Shows, View, items, labels, free_slot, length-states, nameless_kept, slice_get-states, state_shown}
 use Rattle.eco_entities.proofs.Shown.{states-copies, states-push, states-set, states_beside}
 use Rattle.eco_entities.proofs.States.{alive_known, free_known, changed_states, next_is}

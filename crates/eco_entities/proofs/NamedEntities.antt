@@ -1,18 +1,10 @@
 -- Who bears a name: the look-up in the registry and the search among the living find the same.
-use Rattle.std.proofs.lemmas.Grind.{common_steps}
-use Rattle.std.proofs.Common.{◌≡◌, ℕ, zero, suc, ◌+◌, ◌-◌, ◌≤◌, Bool, true, false, cond, List, [], ◌∷◌, slice_get, refl, sym, ap, ◌∙◌, Option, Some, None}
-use Rattle.std.proofs.Common.{MatchOption, option_map, option_and_then, find, arith}
-use Rattle.std.proofs.lemmas.Bool.{cases_eq, false≢true, ne_eqb}
-use Rattle.std.proofs.lemmas.Map.Text.{is_eq-slice_cmp}
-use Rattle.std.proofs.lemmas.Option.{none-some, same_Some}
-use Rattle.std.proofs.lemmas.Slice.Eq.{bytes_eq-Decides}
-use Rattle.eco_ids.specs.declared.entity.Entity.{Entity}
-use Rattle.eco_ids.specs.Indices.{Indexed, IndexState, Retired, Free, Living, record_in, record_of, living_from}
-use Rattle.eco_ids.specs.Names.{is_text, is_called, named_entity}
-use Rattle.eco_ids.specs.Renaming.{own_name}
-use Rattle.eco_entities.specs.Registration.{Registration, given_name}
-use Rattle.eco_entities.specs.Registry.{IsRegistry}
-use Rattle.eco_ids.proofs.States.{record_here}
+use Rattle.eco_entities.proofs.Common.{common_steps, ◌≡◌, ℕ, zero, suc, ◌+◌, ◌-◌, ◌≤◌, Bool, true, false, cond, List, [], ◌∷◌}
+use Rattle.eco_entities.proofs.Common.{slice_get, refl, sym, ap, ◌∙◌, Option, Some, None, MatchOption, option_map, option_and_then, arith, cases_eq}
+use Rattle.eco_entities.proofs.Common.{false≢true, ne_eqb, is_eq-slice_cmp, none-some, same_Some, bytes_eq-Decides, Entity, Indexed, IndexState, Retired}
+use Rattle.eco_entities.proofs.Common.{Free, Living, record_in, record_of, living_from, is_text, is_called, named_entity, own_name, Registration, given_name}
+use Rattle.eco_entities.proofs.Common.{IsRegistry, record_here}
+use Rattle.std.proofs.Common.{find}
 
 -- `is_text` is equality
 

@@ -1,20 +1,10 @@
 -- What an id may need never grows.
-use Rattle.std.proofs.lemmas.Grind.{common_steps}
-use Rattle.std.proofs.Common.{◌≡◌, ℕ, zero, suc, ◌≤◌, true, List, [], ◌∷◌, ◌++◌, slice_get}
-use Rattle.std.proofs.Common.{slice_set, replicate}
-use Rattle.std.proofs.Common.{Option, Some, arith}
-use Rattle.std.proofs.lemmas.Bool.{cases_eq, le-ltb, ne_eqb}
-use Rattle.std.proofs.lemmas.Option.{slice_get_within}
-use Rattle.eco_ids.specs.declared.entity.Entity.{Entity}
+use Rattle.eco_entities.proofs.Common.{common_steps, ◌≡◌, ℕ, zero, suc, ◌≤◌, true, List, [], ◌∷◌, ◌++◌, slice_get, slice_set, replicate}
+use Rattle.eco_entities.proofs.Common.{Option, Some, arith, cases_eq, le-ltb, ne_eqb, slice_get_within, Entity, Indexed, IndexState, Free, Living, record_of}
+use Rattle.eco_entities.proofs.Common.{is_alive, is_free_at, with_record, with_death, admitted, raised, need_in, need_of, NeedsNeverGrow, Registration, Call}
+use Rattle.eco_entities.proofs.Common.{LeadsTo, slice_get-set_same, slice_get-set_other, living_at}
 use Rattle.eco_ids.specs.declared.id.Id.TheVariants.{One, Two}
 use Rattle.eco_ids.specs.declared.value.TheConstants.{FIELD_COUNT}
-use Rattle.eco_ids.specs.Indices.{Indexed, IndexState, Free, Living, record_of, is_alive, is_free_at, with_record, with_death}
-use Rattle.eco_ids.specs.Indices.{admitted, raised}
-use Rattle.eco_entities.specs.Needs.{need_in, need_of, NeedsNeverGrow}
-use Rattle.eco_entities.specs.Registration.{Registration}
-use Rattle.eco_entities.specs.Runs.{Call, LeadsTo}
-use Rattle.eco_ids.proofs.Lists.{slice_get-set_same, slice_get-set_other}
-use Rattle.eco_ids.proofs.States.{living_at}
 use Rattle.eco_entities.proofs.States.{free_known, alive_known}
 use Rattle.eco_entities.proofs.Calls.{called}
 

@@ -1,25 +1,11 @@
 -- The names of the living after each change of a state.
-use Rattle.std.proofs.lemmas.Grind.{common_steps}
-use Rattle.std.proofs.Common.{arith}
-use Rattle.std.proofs.Common.{◌≡◌, ℕ, Bool, true, List, slice_get, refl, ap, ◌∙◌, Option, Some, None, is_some, option_and_then, inl, inr, Result, Ok, Err}
-use Rattle.std.proofs.lemmas.Bool.{cases_Bool}
-use Rattle.std.proofs.lemmas.Bool.{MatchBool-at_true, MatchBool-at_false}
+use Rattle.eco_entities.proofs.Common.{common_steps, arith, ◌≡◌, ℕ, Bool, true, List, slice_get, refl, ap, ◌∙◌, Option, Some, None, is_some}
+use Rattle.eco_entities.proofs.Common.{option_and_then, inl, inr, Result, Ok, Err, cases_Bool, MatchBool-at_true, MatchBool-at_false, Refusal, Taken, Admits}
+use Rattle.eco_entities.proofs.Common.{MakesAliveWith, Meets, Place, slice_get_within, Entity, Indexed, Living, record_of, is_alive, is_free_at, with_record}
+use Rattle.eco_entities.proofs.Common.{with_death, with_new, next_entity, changed, change_kept, own_name, Registration, newcomer, given_name, placed, renamed}
+use Rattle.eco_entities.proofs.Common.{ChangesAt, KeepsAnswers, IsRegistry, slice_get-set_same, record_here, record_at}
 use Rattle.std.proofs.lemmas.List.{set-set}
-use Rattle.eco_ids.specs.declared.refusal.Refusal.{Refusal}
-use Rattle.eco_ids.specs.declared.refusal.Refusal.TheVariants.{Taken}
-use Rattle.eco_ids.specs.Births.{Admits, MakesAliveWith}
-use Rattle.eco_ids.specs.Outcome.{Meets}
-use Rattle.eco_entities.specs.declared.place.Place.{Place}
 use Rattle.eco_entities.proofs.Registers.{cases_entity, registry_same, registry_nameless}
-use Rattle.std.proofs.lemmas.Option.{slice_get_within}
-use Rattle.eco_ids.specs.declared.entity.Entity.{Entity}
-use Rattle.eco_ids.specs.Indices.{Indexed, Living, record_of, is_alive, is_free_at, with_record, with_death, with_new, next_entity, changed, change_kept}
-use Rattle.eco_ids.specs.Renaming.{own_name}
-use Rattle.eco_entities.specs.Registration.{Registration, newcomer, given_name, placed, renamed}
-use Rattle.eco_entities.specs.Changes.{ChangesAt, KeepsAnswers}
-use Rattle.eco_entities.specs.Registry.{IsRegistry}
-use Rattle.eco_ids.proofs.Lists.{slice_get-set_same}
-use Rattle.eco_ids.proofs.States.{record_here, record_at}
 use Rattle.eco_entities.proofs.States.{alive_known}
 use Rattle.eco_entities.proofs.Kept.{record-new, record_of_next, record-settled, record_of_free, record-died, record-replaced, record-admitted}
 

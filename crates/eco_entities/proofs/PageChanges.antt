@@ -1,16 +1,8 @@
 -- What pages of names are after each change, and copies of them.
-use Rattle.std.proofs.Common.{arith, ◌≡◌, ℕ, Bool, true, cond, List, [], ◌∷◌, slice_get, get_or, refl, sym, ap, subst, ◌∙◌, Option, Some, None, option_map}
-use Rattle.std.specs.Prelude.{T}
-use Rattle.std.specs.List.{AllZip}
-use Rattle.std.specs.Map.{lookup}
-use Rattle.std.specs.BTreeMap.{is_at}
-use Rattle.std.specs.Ordering.{nat_cmp, eq_by_cmp}
-use Rattle.std.specs.FinMap.Entries.{below_all, find, is_sorted, is_sorted-put, is_sorted-where_key, put, where_key}
-use Rattle.std.proofs.lemmas.Cmp.{nat_cmp_total}
-use Rattle.std.proofs.lemmas.Option.{none-some, same_Some, get_or_from_slice_get}
-use Rattle.eco_entities.specs.declared.label.Label.{Label}
-use Rattle.eco_entities.specs.Label.{label_text}
-use Rattle.eco_entities.specs.Pages.{IsEntry, SameTexts}
+use Rattle.eco_entities.proofs.Common.{arith, ◌≡◌, ℕ, Bool, true, cond, List, [], ◌∷◌, slice_get, get_or, refl, sym, ap, subst, ◌∙◌, Option}
+use Rattle.eco_entities.proofs.Common.{Some, None, option_map, T, AllZip, lookup, is_at, nat_cmp, eq_by_cmp, below_all, find, is_sorted, is_sorted-put}
+use Rattle.eco_entities.proofs.Common.{is_sorted-where_key, put, where_key, nat_cmp_total, none-some, same_Some, get_or_from_slice_get, Label, label_text}
+use Rattle.eco_entities.proofs.Common.{IsEntry, SameTexts}
 use Rattle.eco_entities.proofs.Copies.{lookup_values}
 
 holds : (b : Bool) → T b → b ≡ true

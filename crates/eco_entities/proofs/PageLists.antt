@@ -1,11 +1,7 @@
 -- Values under keys that stand in pages: each key has one page where it may be.
-use Rattle.std.proofs.Common.{◌≡◌, ℕ, zero, suc, ◌≤◌, List, [], ◌∷◌, length, set, slice_get, refl, sym, ap, ◌∙◌}
-use Rattle.std.proofs.Common.{Option, Some, None, option_and_then, inl, inr}
-use Rattle.std.specs.List.{AllZip}
-use Rattle.std.proofs.lemmas.Bool.{cases_eq}
-use Rattle.std.proofs.lemmas.Option.{slice_get_past}
-use Rattle.eco_ids.proofs.Lists.{slice_get-set_other, slice_get-set_there}
-use Rattle.eco_entities.specs.Changes.{ChangesAt, KeepsAnswers}
+use Rattle.eco_entities.proofs.Common.{◌≡◌, ℕ, zero, suc, ◌≤◌, List, [], ◌∷◌, length, set, slice_get, refl, sym, ap, ◌∙◌, Option}
+use Rattle.eco_entities.proofs.Common.{Some, None, option_and_then, inl, inr, AllZip, cases_eq, slice_get_past, slice_get-set_other, slice_get-set_there}
+use Rattle.eco_entities.proofs.Common.{ChangesAt, KeepsAnswers}
 
 module _ {P K V : Type 0} (at : K → ℕ) (read : P → K → Option V) where
   -- the value under a key

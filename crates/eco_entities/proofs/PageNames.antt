@@ -1,15 +1,7 @@
 -- The names by index after each change of one page.
-use Rattle.std.proofs.Common.{◌≡◌, ◌≢◌, ℕ, ◌/◌, ◌≤◌, true, false, cond, not, List, length, set, slice_get, refl, sym, ap, ◌∙◌}
-use Rattle.std.proofs.Common.{Some, None, option_map}
-use Rattle.std.specs.List.{AllZip}
-use Rattle.std.specs.Ordering.{nat_cmp, eq_by_cmp, is_eq}
-use Rattle.std.specs.declared.cmp.Ordering.TheVariants.{Equal}
-use Rattle.std.specs.FinMap.Entries.{find, find-put, find-where_key, put, where_key}
-use Rattle.std.proofs.lemmas.Cmp.{by_ranked, nat_cmp_total, ranked}
-use Rattle.eco_entities.specs.declared.label.Label.{Label}
-use Rattle.eco_entities.specs.Changes.{ChangesAt, KeepsAnswers}
-use Rattle.eco_entities.specs.Label.{label_text}
-use Rattle.eco_entities.specs.Pages.{name_at, text_at, SameTexts}
+use Rattle.eco_entities.proofs.Common.{◌≡◌, ◌≢◌, ℕ, ◌/◌, ◌≤◌, true, false, cond, not, List, length, set, slice_get, refl, sym, ap}
+use Rattle.eco_entities.proofs.Common.{◌∙◌, Some, None, option_map, AllZip, nat_cmp, eq_by_cmp, is_eq, Equal, find, find-put, find-where_key, put}
+use Rattle.eco_entities.proofs.Common.{where_key, by_ranked, nat_cmp_total, ranked, Label, ChangesAt, KeepsAnswers, label_text, name_at, text_at, SameTexts}
 use Rattle.eco_entities.proofs.PageLists.{absent, page_changed, value_read, values_copied}
 use Rattle.eco_entities.proofs.Seats.{equal_is, other}
 

@@ -1,14 +1,7 @@
 -- The registry of names after each change.
-use Rattle.std.proofs.lemmas.Grind.{common_steps}
-use Rattle.std.proofs.Common.{◌≡◌, ◌≢◌, ℕ, true, List, sym, ap, ◌∙◌, Option, Some, None, ◌⊎◌, inl, inr, arith}
-use Rattle.std.proofs.lemmas.Bool.{cases_eq, cases_Bool, false≢true}
-use Rattle.std.proofs.lemmas.Option.{none-some, same_Some}
-use Rattle.std.proofs.lemmas.Slice.Eq.{bytes_eq-Decides}
-use Rattle.std.specs.Str.{bytes_eq}
-use Rattle.eco_ids.specs.declared.entity.Entity.{Entity}
-use Rattle.eco_ids.specs.Names.{is_name}
-use Rattle.eco_entities.specs.Changes.{ChangesAt, KeepsAnswers}
-use Rattle.eco_entities.specs.Registry.{IsRegistry}
+use Rattle.eco_entities.proofs.Common.{common_steps, ◌≡◌, ◌≢◌, ℕ, true, List, sym, ap, ◌∙◌, Option, Some, None, ◌⊎◌, inl, inr, arith}
+use Rattle.eco_entities.proofs.Common.{cases_eq, cases_Bool, false≢true, none-some, same_Some, bytes_eq-Decides, bytes_eq, Entity, is_name, ChangesAt}
+use Rattle.eco_entities.proofs.Common.{KeepsAnswers, IsRegistry}
 
 -- two texts are equal or not
 pub cases_text : (xs ys : List ℕ) → (xs ≡ ys) ⊎ (xs ≢ ys)

@@ -1,22 +1,9 @@
 -- What a rename answers.
-use Rattle.std.proofs.lemmas.Grind.{common_steps}
-use Rattle.std.proofs.Common.{arith}
-use Rattle.std.proofs.Common.{◌≡◌, ℕ, Bool, true, false, ◌&&◌, List, [], ◌∷◌, refl, sym, ap, ◌∙◌, Option, Some, None, Result, Ok, Err}
-use Rattle.std.proofs.Common.{MatchOption, eqb, eqb-true}
-use Rattle.std.proofs.lemmas.Bool.{cases_Bool, and_parts}
-use Rattle.std.proofs.lemmas.Option.{same_Some}
-use Rattle.eco_ids.specs.declared.entity.Entity.{Entity}
-use Rattle.eco_ids.specs.declared.refusal.Refusal.{Refusal}
-use Rattle.eco_ids.specs.declared.refusal.Refusal.TheVariants.{BadName, NameTaken}
-use Rattle.eco_ids.specs.Births.{unfit_name, Makes}
-use Rattle.eco_ids.specs.Indices.{Indexed, is_alive, changed}
-use Rattle.eco_ids.specs.Names.{is_name, is_called, named_entity}
-use Rattle.eco_ids.specs.Outcome.{Meets, first_refusal, is_out_of_memory}
-use Rattle.eco_ids.specs.Renaming.{own_name, RenamesWith, may_rename}
-use Rattle.eco_entities.specs.Registration.{Registration, newcomer, given_name, renamed}
+use Rattle.eco_entities.proofs.Common.{common_steps, arith, ◌≡◌, ℕ, Bool, true, false, ◌&&◌, List, [], ◌∷◌, refl, sym, ap, ◌∙◌, Option}
+use Rattle.eco_entities.proofs.Common.{Some, None, Result, Ok, Err, MatchOption, eqb, eqb-true, cases_Bool, and_parts, same_Some, Entity, Refusal, BadName}
+use Rattle.eco_entities.proofs.Common.{NameTaken, unfit_name, Makes, Indexed, is_alive, changed, is_name, is_called, named_entity, Meets, first_refusal}
+use Rattle.eco_entities.proofs.Common.{is_out_of_memory, own_name, RenamesWith, may_rename, Registration, newcomer, given_name, renamed, record_at, set_own}
 use Rattle.eco_entities.proofs.NamedEntities.{text_refl, called_same}
-use Rattle.eco_ids.proofs.States.{record_at}
-use Rattle.eco_ids.proofs.Lists.{set_own}
 use Rattle.eco_entities.proofs.States.{alive_known}
 
 -- who doesn't bear the name isn't called by it

@@ -1,16 +1,8 @@
 -- Where an index's entry is among entries in their order, and what changes there.
-use Rattle.std.proofs.lemmas.Grind.{common_steps}
-use Rattle.std.proofs.Common.{◌≡◌, ℕ, zero, suc, ◌<◌, ◌≤◌, Bool, true, not, List, [], ◌∷◌, drop, slice_get}
-use Rattle.std.proofs.Common.{refl, sym, ap, subst, ◌∙◌, Some, None, Result, Ok, Err, arith}
-use Rattle.std.specs.Prelude.{MatchResult}
-use Rattle.std.proofs.lemmas.Option.{none-some, same_Some}
-use Rattle.std.proofs.lemmas.Bool.{and_parts}
-use Rattle.std.proofs.lemmas.Cmp.{by_ranked, ranked}
+use Rattle.eco_entities.proofs.Common.{common_steps, ◌≡◌, ℕ, zero, suc, ◌<◌, ◌≤◌, Bool, true, not, List, [], ◌∷◌, drop, slice_get, refl}
+use Rattle.eco_entities.proofs.Common.{sym, ap, subst, ◌∙◌, Some, None, Result, Ok, Err, arith, MatchResult, none-some, same_Some, and_parts, by_ranked}
+use Rattle.eco_entities.proofs.Common.{ranked, Less, Equal, Greater, nat_cmp, eq_by_cmp, is_lt, by_order, below_all, find, is_sorted, where_key, IsEntry, IsGap}
 use Rattle.std.specs.Cmp.{nat_cmp_is}
-use Rattle.std.specs.declared.cmp.Ordering.TheVariants.{Less, Equal, Greater}
-use Rattle.std.specs.Ordering.{nat_cmp, eq_by_cmp, is_lt}
-use Rattle.std.specs.FinMap.Entries.{by_order, below_all, find, is_sorted, where_key}
-use Rattle.eco_entities.specs.Pages.{IsEntry, IsGap}
 
 abbrev later : Result ℕ ℕ → Result ℕ ℕ
 later (Ok n) = Ok (suc n)

@@ -1,18 +1,10 @@
 -- What slots and labels show of the indices.
-use Rattle.std.proofs.lemmas.Grind.{common_steps}
-use Rattle.std.proofs.Common.{◌≡◌, ◌≢◌, ℕ, zero, suc, ◌<◌, ◌==◌, ◌&&◌, Bool, true, false, cond, if◌then◌else◌, List, [], ◌∷◌, ◌++◌, length, set, get_or}
-use Rattle.std.proofs.Common.{slice_get, replicate, refl, sym, ap, ◌∙◌, Option, Some, None, is_some, option_map, option_and_then, arith}
-use Rattle.std.proofs.lemmas.Bool.{false≢true}
-use Rattle.std.proofs.lemmas.Option.{slice_get_read}
-use Rattle.eco_ids.specs.declared.entity.Entity.{Entity}
-use Rattle.eco_ids.specs.Indices.{Indexed, IndexState, Retired, Free, Living, record_in, record_of, is_alive, is_free_in, map_state}
-use Rattle.eco_ids.specs.Renaming.{own_name}
-use Rattle.eco_entities.specs.Registration.{Registration, given_name, entity_at, entity_in, own_arity, own_place, renamed}
-use Rattle.eco_entities.specs.Slots.{is_living, is_named, arity_in, place_in, registration_of, state_at, state_of, states, living_in, living_slot, is_free}
-use Rattle.eco_entities.specs.Slots.{next_generation}
-use Rattle.eco_entities.specs.Labels.{label_of}
-use Rattle.eco_entities.specs.declared.slot.Slot.{Slot}
-use Rattle.eco_entities.specs.declared.slots.Slots.TheInside.{Inside}
+use Rattle.eco_entities.proofs.Common.{common_steps, ◌≡◌, ◌≢◌, ℕ, zero, suc, ◌<◌, ◌==◌, ◌&&◌, Bool, true, false, cond}
+use Rattle.eco_entities.proofs.Common.{if◌then◌else◌, List, [], ◌∷◌, ◌++◌, length, set, get_or, slice_get, replicate, refl, sym, ap, ◌∙◌}
+use Rattle.eco_entities.proofs.Common.{Option, Some, None, is_some, option_map, option_and_then, arith, false≢true, slice_get_read, Entity, Indexed}
+use Rattle.eco_entities.proofs.Common.{IndexState, Retired, Free, Living, record_in, record_of, is_alive, is_free_in, map_state, own_name, Registration}
+use Rattle.eco_entities.proofs.Common.{given_name, entity_at, entity_in, own_arity, own_place, renamed, is_living, is_named, arity_in, place_in}
+use Rattle.eco_entities.proofs.Common.{registration_of, state_at, state_of, states, living_in, living_slot, is_free, next_generation, label_of, Slot, Inside}
 use Rattle.eco_entities.specs.declared.slot.State.{State}
 
 -- names by index

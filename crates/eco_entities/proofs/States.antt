@@ -1,14 +1,9 @@
 -- Lists of states: who lives or is free at an index, and what a change leaves of it.
-use Rattle.std.proofs.lemmas.Grind.{common_steps}
-use Rattle.std.proofs.Common.{◌≡◌, ℕ, ◌+◌, ◌-◌, ◌<◌, ◌≤◌, true, cond, List, [], ◌∷◌, length, set, slice_get, refl, sym, ap, ◌∙◌, Option, Some, None, is_some}
-use Rattle.std.proofs.Common.{◌⊎◌, inl, inr, nat_lt, if◌then◌else◌, arith, eqb-true}
-use Rattle.std.specs.Option.{option_or}
-use Rattle.std.proofs.lemmas.Bool.{cases_eq, ltb-true, false≢true, ne_eqb}
-use Rattle.std.proofs.lemmas.Option.{none-some, cond_some, same_Some}
-use Rattle.eco_ids.specs.declared.entity.Entity.{Entity}
-use Rattle.eco_ids.specs.Indices.{Indexed, IndexState, Retired, Free, Living, record_in, is_alive, is_free_in, is_free_at, map_state, lowest_free, next_entity}
-use Rattle.eco_ids.specs.Indices.{changed}
-use Rattle.eco_ids.proofs.States.{record_at}
+use Rattle.eco_entities.proofs.Common.{common_steps, ◌≡◌, ℕ, ◌+◌, ◌-◌, ◌<◌, ◌≤◌, true, cond, List, [], ◌∷◌, length, set}
+use Rattle.eco_entities.proofs.Common.{slice_get, refl, sym, ap, ◌∙◌, Option, Some, None, is_some, ◌⊎◌, inl, inr, nat_lt, if◌then◌else◌}
+use Rattle.eco_entities.proofs.Common.{arith, eqb-true, option_or, cases_eq, ltb-true, false≢true, ne_eqb, none-some, cond_some, same_Some, Entity, Indexed}
+use Rattle.eco_entities.proofs.Common.{IndexState, Retired, Free, Living, record_in, is_alive, is_free_in, is_free_at, map_state, lowest_free, next_entity}
+use Rattle.eco_entities.proofs.Common.{changed, record_at}
 
 -- who is there
 

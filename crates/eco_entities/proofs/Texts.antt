@@ -1,14 +1,6 @@
 -- Look-ups by text in the trees of names.
-use Rattle.std.proofs.lemmas.Grind.{common_steps}
-use Rattle.std.proofs.Common.{◌≡◌, ℕ, Bool, true, false, cond, List, Option, arith}
-use Rattle.std.specs.Prelude.{String}
-use Rattle.std.specs.BTreeMap.{BTreeMap, get_by_text}
-use Rattle.std.specs.Map.{update}
-use Rattle.std.specs.Str.{bytes_eq}
-use Rattle.std.proofs.lemmas.Bool.{cond-true, cond-false, false_from_ne_true}
-use Rattle.std.proofs.lemmas.Slice.Eq.{bytes_eq-Decides}
-use Rattle.eco_ids.specs.declared.entity.Entity.{Entity}
-use Rattle.eco_entities.specs.Changes.{ChangesAt}
+use Rattle.eco_entities.proofs.Common.{common_steps, ◌≡◌, ℕ, Bool, true, false, cond, List, Option, arith, String, BTreeMap, get_by_text, update}
+use Rattle.eco_entities.proofs.Common.{bytes_eq, cond-true, cond-false, false_from_ne_true, bytes_eq-Decides, Entity, ChangesAt}
 
 -- a change under one key, seen by bytes
 pub changes_text : {Y X : Type 0} (bs : List ℕ) (m n : BTreeMap (String Y) X) (w : Option X)

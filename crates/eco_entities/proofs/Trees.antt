@@ -1,21 +1,10 @@
 -- Short names in their trees, after each change of a tree.
-use Rattle.std.proofs.Common.{arith, ◌≡◌, ℕ, ◌%◌, ◌≤◌, false, List, [], length, set, slice_get, sym, ap, subst, ◌∙◌, Option, Some, None, inl, inr, Result, Ok}
-use Rattle.std.proofs.Common.{Err}
-use Rattle.std.specs.Prelude.{OnOk, OnErr}
-use Rattle.std.proofs.lemmas.Bool.{false_from_ne_true}
-use Rattle.std.proofs.lemmas.Map.Text.{is_eq-slice_cmp}
-use Rattle.std.proofs.lemmas.Option.{none-some}
-use Rattle.std.proofs.lemmas.Slice.Eq.{bytes_eq-Decides}
-use Rattle.std.specs.BTreeMap.{BTreeMap, UpdatesBy, get_by, is_at}
-use Rattle.std.specs.Map.{lookup}
-use Rattle.std.specs.Cmp.Lexicographic.{slice_cmp}
-use Rattle.std.specs.Ordering.{is_eq, nat_cmp, ordering_then}
-use Rattle.std.specs.Str.{bytes_eq}
+use Rattle.eco_entities.proofs.Common.{arith, ◌≡◌, ℕ, ◌%◌, ◌≤◌, false, List, [], length, set, slice_get, sym, ap, subst, ◌∙◌, Option}
+use Rattle.eco_entities.proofs.Common.{Some, None, inl, inr, Result, Ok, Err, OnOk, OnErr, false_from_ne_true, is_eq-slice_cmp, none-some, bytes_eq-Decides}
+use Rattle.eco_entities.proofs.Common.{BTreeMap, UpdatesBy, get_by, is_at, lookup, slice_cmp, is_eq, nat_cmp, ordering_then, bytes_eq, Entity, ChangesAt}
+use Rattle.eco_entities.proofs.Common.{KeepsAnswers, found_among, found_in, hash_of, key_cmp, text_cmp}
 use Rattle.std.specs.declared.cmp.Ordering.{Ordering}
-use Rattle.eco_ids.specs.declared.entity.Entity.{Entity}
 use Rattle.eco_entities.specs.declared.key.Key.{Key}
-use Rattle.eco_entities.specs.Changes.{ChangesAt, KeepsAnswers}
-use Rattle.eco_entities.specs.Keys.{found_among, found_in, hash_of, key_cmp, text_cmp}
 use Rattle.eco_entities.proofs.PageLists.{absent, page_changed, page_kept, value_read}
 use Rattle.eco_entities.proofs.Registers.{cases_text}
 

@@ -2,7 +2,8 @@
 //!
 //! An entity is named by a handle: an index, and how often that index was used before. A handle that outlives its entity
 //! is never taken for the one who lives at its index now (Flecs manual, Entities and Components).
-ghost use Rattle.std.specs.Prelude.{◌≡◌, ◌↔◌, ◌≤◌, ◌<◌, ◌&&◌, nat_lt, true, false, [], length, Option, Some, None, IsTrue, IfOk, IfSome, IfNone, OnOk, OnErr, MatchBool, MatchOption};
+ghost use Rattle.std.specs.Prelude.{◌≡◌, ◌↔◌, ◌≤◌, ◌<◌, ◌&&◌, nat_lt, true, false, [], length, Option, Some, None};
+ghost use Rattle.std.specs.Prelude.{IsTrue, IfOk, IfSome, IfNone, OnOk, OnErr, MatchBool, MatchOption};
 ghost use Rattle.std.specs.Option.{option_copied};
 ghost use Rattle.eco_ids.specs.Births.{Admits, may_admit, Makes, MakesAliveWith, unfit_name};
 ghost use Rattle.eco_ids.specs.declared.entity.Entity.{Entity};
@@ -12,7 +13,8 @@ ghost use Rattle.eco_ids.specs.Names.{named_entity, is_name};
 ghost use Rattle.eco_ids.specs.Outcome.{Meets};
 ghost use Rattle.eco_ids.specs.Renaming.{own_name, may_rename, RenamesWith};
 ghost use Rattle.eco_entities.specs.Needs.{need};
-ghost use Rattle.eco_entities.specs.Registration.{CreatesRegistration, RenamesRegistration, newcomer, given_name, own_arity, own_place, entity_at, placed, renamed};
+ghost use Rattle.eco_entities.specs.Registration.{CreatesRegistration, RenamesRegistration, newcomer, given_name};
+ghost use Rattle.eco_entities.specs.Registration.{own_arity, own_place, entity_at, placed, renamed};
 ghost use Rattle.eco_entities.specs.Rules.{IsRuled};
 ghost use Rattle.eco_entities.specs.Taken.{IsTaken};
 

@@ -1,5 +1,6 @@
 //! One level of a bitmap: bits in words of 64, the lowest bit of a word first.
-ghost use Rattle.std.specs.Prelude.{◌≡◌, ℕ, ◌+◌, ◌-◌, ◌*◌, ◌/◌, ◌^◌, ◌<◌, ◌≤◌, ◌==◌, nat_lt, [], ◌++◌, replicate, length, slice_index, IfOk, OnOk, OnErr, List};
+ghost use Rattle.std.specs.Prelude.{◌≡◌, ℕ, ◌+◌, ◌-◌, ◌*◌, ◌/◌, ◌^◌, ◌<◌, ◌≤◌, ◌==◌, nat_lt, [], ◌++◌, replicate};
+ghost use Rattle.std.specs.Prelude.{length, slice_index, IfOk, OnOk, OnErr, List};
 ghost use Rattle.std.specs.List.{position_from};
 ghost use Rattle.eco_entities.specs.Words.{with_bit, without_bit, range_mask, FillsBits, IsFirstWord, IsLowestBit};
 

@@ -1,5 +1,7 @@
 //! The known indices: which of them live, are free or retired, and what is kept of the living.
-ghost use Rattle.std.specs.Prelude.{◌≡◌, ℕ, ◌+◌, ◌≤◌, ◌<◌, ◌&&◌, false, nat_lt, [], ◌++◌, replicate, vec_len, vec_capacity, length, slice_get, IsTrue, IsFalse, OnOk, OnErr, IfOk, IfSome, IfNone, Some, None, option_map};
+ghost use Rattle.std.specs.Prelude.{◌≡◌, ℕ, ◌+◌, ◌≤◌, ◌<◌, ◌&&◌, false, nat_lt, [], ◌++◌, replicate, vec_len};
+ghost use Rattle.std.specs.Prelude.{vec_capacity, length, slice_get, IsTrue, IsFalse, OnOk, OnErr, IfOk, IfSome};
+ghost use Rattle.std.specs.Prelude.{IfNone, Some, None, option_map};
 ghost use Rattle.eco_ids.specs.Births.{Admits, may_admit, MakesAliveWith};
 ghost use Rattle.eco_ids.specs.Indices.{changed, record_of, is_alive, is_free_at, next_entity, admitted, with_new, with_record, with_death};
 ghost use Rattle.eco_ids.specs.Outcome.{Meets};

@@ -1,18 +1,12 @@
 -- Lists of one width, one behind another.
-use Rattle.std.proofs.Common.{◌≡◌, ℕ, zero, suc, ◌+◌, ◌*◌, ◌/◌, ◌<◌, ◌≤◌, List, [], ◌∷◌, ◌++◌, length, take, drop, map, slice_get, get_or, Option, Some, refl}
-use Rattle.std.proofs.Common.{sym, ap, ◌∙◌, ◌-◌, arith, suc-add, append_assoc, length-append}
-use Rattle.std.specs.List.{swap_remove}
-use Rattle.std.specs.Prelude.{flat_map}
+use Rattle.eco_entries.proofs.Common.{◌≡◌, ℕ, zero, suc, ◌+◌, ◌*◌, ◌/◌, ◌<◌, ◌≤◌, List, [], ◌∷◌, ◌++◌, length, take}
+use Rattle.eco_entries.proofs.Common.{drop, map, slice_get, get_or, Option, Some, refl, sym, ap, ◌∙◌, ◌-◌, arith, suc-add, append_assoc}
+use Rattle.eco_entries.proofs.Common.{length-append, swap_remove, flat_map, mul-le-mul_right, suc-mul, mul-div_cancel, drop-append_seam, set-append_seam}
+use Rattle.eco_entries.proofs.Common.{take-append_seam, take-append-le, drop-append-le, length-take-le, length-drop, take_more, append-nil, take-append-drop}
+use Rattle.eco_entries.proofs.Common.{flat_map-map, get_or_from_slice_get, slice_get_within, Id, ChoicesState, chunks, IsEven}
 use Rattle.eco_ids.proofs.Common.{take-length}
-use Rattle.std.proofs.Math.Nat.{mul-le-mul_right, suc-mul, mul-div_cancel}
 use Rattle.std.proofs.Math.ListN.{set}
-use Rattle.std.proofs.Math.Seq.{drop-append_seam, set-append_seam, take-append_seam}
-use Rattle.std.proofs.lemmas.List.{take-append-le, drop-append-le, length-take-le, length-drop, take_more, append-nil, take-append-drop}
-use Rattle.std.proofs.lemmas.List.Folds.{flat_map-map}
 use Rattle.std.proofs.lemmas.Grind.{flat_map-append}
-use Rattle.std.proofs.lemmas.Option.{get_or_from_slice_get, slice_get_within}
-use Rattle.eco_ids.specs.declared.id.Id.{Id}
-use Rattle.eco_entries.specs.Flat.{ChoicesState, chunks, IsEven}
 
 -- the lists of some items, and of one more
 pub flat_map-more : {X Y : Type 0} (f : X → List Y) (xs : List X) (p : ℕ) (d : X) → p < length xs

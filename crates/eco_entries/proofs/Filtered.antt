@@ -1,9 +1,6 @@
 -- The items that pass a test, so far: one more item is behind them, or is passed over.
-use Rattle.std.proofs.Common.{◌≡◌, ℕ, ◌+◌, ◌<◌, Bool, true, false, cond, List, [], ◌∷◌, ◌++◌, length, get_or, take, map, Option, Some}
-use Rattle.std.proofs.Common.{sym, ap, ◌∙◌, append_assoc}
-use Rattle.std.specs.Prelude.{filter}
-use Rattle.std.proofs.lemmas.List.{append-nil, map-append}
-use Rattle.std.proofs.lemmas.List.Elements.{filter_more}
+use Rattle.eco_entries.proofs.Common.{◌≡◌, ℕ, ◌+◌, ◌<◌, Bool, true, false, cond, List, [], ◌∷◌, ◌++◌, length, get_or, take, map}
+use Rattle.eco_entries.proofs.Common.{Option, Some, sym, ap, ◌∙◌, append_assoc, filter, append-nil, map-append, filter_more}
 
 module _ {X : Type 0} (p : X → Bool) (xs : List X) (i : ℕ) (d : X) (base old new : List (Option X)) (here : i < length xs)
     (so_far : old ≡ base ++ map Some (filter p (take i xs))) where

@@ -1,27 +1,12 @@
 -- The first match of an ascending list, while all that match fill the pattern as it does.
-use Rattle.std.proofs.Common.{◌≡◌, ◌≢◌, ℕ, ◌+◌, ◌<◌, Bool, true, false, not, ◌&&◌, ◌||◌, cond}
-use Rattle.std.proofs.Common.{List, [], ◌∷◌, ◌++◌, length, get_or, take, drop, refl, sym, ap, ◌∙◌}
-use Rattle.std.proofs.Common.{Option, Some, None, subst, true≢false, arith, length-append}
-use Rattle.std.specs.Prelude.{IfNone, IsTrue, MatchOption, filter, option_to_list}
-use Rattle.std.specs.List.{list_any}
-use Rattle.std.proofs.lemmas.List.{take-append-drop}
-use Rattle.std.proofs.lemmas.List.Elements.{filter-append, filter_more}
-use Rattle.std.proofs.lemmas.List.Folds.{list_any_more}
-use Rattle.eco_ids.specs.Answer.{is_least_match, same_filling}
-use Rattle.eco_ids.specs.Matching.{pattern_matches}
-use Rattle.eco_ids.specs.Order.{entity_eq, id_cmp, is_ascending}
-use Rattle.eco_ids.specs.declared.entity.Entity.{Entity}
-use Rattle.eco_ids.specs.declared.id.Id.{Id}
-use Rattle.eco_ids.specs.declared.id.Id.TheVariants as id
-use Rattle.eco_ids.specs.declared.pattern.Part.{Part}
-use Rattle.eco_ids.specs.declared.pattern.Part.TheVariants.{Is, Each, Any}
-use Rattle.eco_ids.specs.declared.pattern.Pattern.{Pattern}
-use Rattle.eco_ids.specs.declared.pattern.Pattern.TheVariants.{One, Two}
-use Rattle.eco_ids.proofs.Ascending.{first, second}
-use Rattle.eco_ids.proofs.Overlaps.{entity_eq_is}
-use Rattle.eco_entries.specs.Answers.{parts_alike}
+use Rattle.eco_entries.proofs.Common.{◌≡◌, ◌≢◌, ℕ, ◌+◌, ◌<◌, Bool, true, false, not, ◌&&◌, ◌||◌, cond, List, [], ◌∷◌}
+use Rattle.eco_entries.proofs.Common.{◌++◌, length, get_or, take, drop, refl, sym, ap, ◌∙◌, Option, Some, None, subst, true≢false, arith}
+use Rattle.eco_entries.proofs.Common.{length-append, IfNone, IsTrue, MatchOption, filter, option_to_list, list_any, take-append-drop, filter-append}
+use Rattle.eco_entries.proofs.Common.{filter_more, list_any_more, is_least_match, same_filling, pattern_matches, entity_eq, id_cmp, is_ascending, Entity, Id}
+use Rattle.eco_entries.proofs.Common.{Part, Is, Each, Any, Pattern, One, Two, first, second, entity_eq_is, parts_alike}
 use Rattle.eco_entries.specs.First.{IsJoinedIf, IsJoined, IsNext, IsOther}
 use Rattle.eco_entries.proofs.Unseen.{below_before}
+use Rattle.eco_ids.specs.declared.id.Id.TheVariants as id
 
 -- the id is one of these
 abbrev IsAmong : List Id → Id → Type 0

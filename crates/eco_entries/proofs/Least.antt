@@ -1,22 +1,8 @@
 -- Where no part of a pattern is `_`, no two ids fill it alike, so each id that matches is the least of its filling.
-use Rattle.std.proofs.Common.{◌≡◌, Bool, true, false, not, ◌&&◌, ◌||◌, cond, List, [], ◌∷◌, refl, sym, ap, ◌∙◌, true≢false, is_lt}
-use Rattle.std.specs.Prelude.{filter}
-use Rattle.std.specs.Cmp.{tied_itself}
-use Rattle.std.specs.List.{list_any}
-use Rattle.eco_ids.specs.Answer.{is_least_match, same_filling}
-use Rattle.eco_ids.specs.Matching.{part_matches, pattern_matches}
-use Rattle.eco_ids.specs.Order.{id_cmp}
-use Rattle.eco_ids.specs.declared.entity.Entity.{Entity}
-use Rattle.eco_ids.specs.declared.id.Id.{Id}
+use Rattle.eco_entries.proofs.Common.{◌≡◌, Bool, true, false, not, ◌&&◌, ◌||◌, cond, List, [], ◌∷◌, refl, sym, ap, ◌∙◌, true≢false}
+use Rattle.eco_entries.proofs.Common.{is_lt, filter, tied_itself, list_any, is_least_match, same_filling, part_matches, pattern_matches, id_cmp, Entity, Id}
+use Rattle.eco_entries.proofs.Common.{Part, Is, Each, Any, Pattern, One, Two, first, second, id_cmp_total, entity_eq_is, has_any_part, is_any, parts_alike}
 use Rattle.eco_ids.specs.declared.id.Id.TheVariants as id
-use Rattle.eco_ids.specs.declared.pattern.Part.{Part}
-use Rattle.eco_ids.specs.declared.pattern.Part.TheVariants.{Is, Each, Any}
-use Rattle.eco_ids.specs.declared.pattern.Pattern.{Pattern}
-use Rattle.eco_ids.specs.declared.pattern.Pattern.TheVariants.{One, Two}
-use Rattle.eco_ids.proofs.Ascending.{first, second}
-use Rattle.eco_ids.proofs.IdOrder.{id_cmp_total}
-use Rattle.eco_ids.proofs.Overlaps.{entity_eq_is}
-use Rattle.eco_entries.specs.Answers.{has_any_part, is_any, parts_alike}
 
 same_part : (p : Part) (a b : Entity) → is_any p ≡ false → part_matches p a ≡ true → part_matches p b ≡ true → parts_alike p a b ≡ true → a ≡ b
 same_part (Is e) a b none one other alike = sym (entity_eq_is e a one) ∙ entity_eq_is e b other

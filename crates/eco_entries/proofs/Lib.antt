@@ -1,3 +1,4 @@
+pub mod Common
 pub mod Chunked
 pub mod Filtered
 pub mod FirstMatch

@@ -1,13 +1,9 @@
 -- Where each slot may have just one entry, these are the one choice.
-use Rattle.std.proofs.Common.{◌≡◌, ◌≢◌, ℕ, suc, ◌+◌, ◌<◌, List, [], ◌∷◌, ◌++◌, length, drop, map, get_or, Option, refl, sym, ap, ◌∙◌}
-use Rattle.std.proofs.Common.{arith, add-one, drop-cons, append_assoc, length-append}
-use Rattle.std.specs.Prelude.{flat_map}
-use Rattle.std.proofs.lemmas.List.{length-drop, length-map, map-id, nil_from_length}
-use Rattle.eco_ids.specs.Answer.{choices, entries_of}
-use Rattle.eco_ids.specs.declared.id.Id.{Id}
+use Rattle.eco_entries.proofs.Common.{◌≡◌, ◌≢◌, ℕ, suc, ◌+◌, ◌<◌, List, [], ◌∷◌, ◌++◌, length, drop, map, get_or, Option, refl}
+use Rattle.eco_entries.proofs.Common.{sym, ap, ◌∙◌, arith, add-one, drop-cons, append_assoc, length-append, flat_map, length-drop, length-map, map-id}
+use Rattle.eco_entries.proofs.Common.{nil_from_length, choices, entries_of, Id, asks}
 use Rattle.eco_query.specs.Queries.{term_view}
 use Rattle.eco_query.specs.declared.slot.Slot.{Slot}
-use Rattle.eco_entries.specs.Answers.{asks}
 
 one_item : {X : Type 0} (xs : List X) → length xs ≡ 1 → (x : X) × (xs ≡ x ∷ [])
 one_item [] e = absurd (omega (arith, e))

@@ -1,16 +1,8 @@
 -- Ids that were seen: one that is above a list that ascends is not in it, and all that is known of it stays so where one comes.
-use Rattle.std.proofs.Common.{◌≡◌, ℕ, zero, suc, ◌+◌, Bool, true, false, ◌&&◌, ◌||◌, List, [], ◌∷◌, ◌++◌, length, Some, refl, sym, ap, ◌∙◌, subst}
-use Rattle.std.proofs.Common.{arith, is_lt, is_eq, Less, slice_get, unwrap_or}
-use Rattle.std.specs.Prelude.{IsTrue, Result, Ok, Err, is_ok}
-use Rattle.std.specs.List.{list_all}
-use Rattle.std.specs.BTreeSet.{BTreeSet, contains}
-use Rattle.std.proofs.lemmas.List.Folds.{list_all-append, list_any-append}
-use Rattle.std.proofs.lemmas.Option.{get_or_from_slice_get, slice_get_within}
-use Rattle.eco_ids.specs.Order.{has_item, id_cmp, id_eq, is_ascending, SearchSays}
-use Rattle.eco_ids.specs.declared.id.Id.{Id}
-use Rattle.eco_ids.proofs.Ascending.{all_at, both, first, second, less}
-use Rattle.eco_ids.proofs.IdOrder.{id_cmp_total}
-use Rattle.eco_entries.specs.Seen.{is_above}
+use Rattle.eco_entries.proofs.Common.{◌≡◌, ℕ, zero, suc, ◌+◌, Bool, true, false, ◌&&◌, ◌||◌, List, [], ◌∷◌, ◌++◌, length, Some}
+use Rattle.eco_entries.proofs.Common.{refl, sym, ap, ◌∙◌, subst, arith, is_lt, is_eq, Less, slice_get, unwrap_or, IsTrue, Result, Ok, Err, is_ok}
+use Rattle.eco_entries.proofs.Common.{list_all, BTreeSet, contains, list_all-append, list_any-append, get_or_from_slice_get, slice_get_within, has_item, id_cmp}
+use Rattle.eco_entries.proofs.Common.{id_eq, is_ascending, SearchSays, Id, all_at, both, first, second, less, id_cmp_total, is_above}
 
 and_true : (b : Bool) → (b && true) ≡ b
 and_true true = refl

@@ -1,28 +1,12 @@
 -- In an ascending list the least match of a filling is the first: an id is one exactly where its filling has not been seen before.
-use Rattle.std.proofs.Common.{◌≡◌, ℕ, zero, suc, ◌+◌, ◌<◌, Bool, true, false, not, ◌&&◌, ◌||◌, List, [], ◌∷◌, length, get_or, take, refl, sym, ap, ◌∙◌}
-use Rattle.std.proofs.Common.{true≢false}
-use Rattle.std.proofs.Common.{arith, le_of_suc-le-suc, is_lt, is_eq, Ordering, Less, Equal, Greater}
-use Rattle.std.specs.Prelude.{IsTrue}
+use Rattle.eco_entries.proofs.Common.{◌≡◌, ℕ, zero, suc, ◌+◌, ◌<◌, Bool, true, false, not, ◌&&◌, ◌||◌, List, [], ◌∷◌, length}
+use Rattle.eco_entries.proofs.Common.{get_or, take, refl, sym, ap, ◌∙◌, true≢false, arith, le_of_suc-le-suc, is_lt, is_eq, Ordering, Less, Equal}
+use Rattle.eco_entries.proofs.Common.{Greater, IsTrue, tied_itself, list_any, list_all, list_any_more, is_least_match, same_filling, pattern_matches}
+use Rattle.eco_entries.proofs.Common.{entity_cmp, id_cmp, is_ascending, Entity, Id, Part, Is, Each, Any, Pattern, One, Two, first, second, less, all_at}
+use Rattle.eco_entries.proofs.Common.{id_cmp_total, parts_alike, asked_for, filling, fills, HasSeen, SeesMore, is_seen}
 use Rattle.std.specs.Ordering.{ordering_then, ordering_reverse}
-use Rattle.std.specs.Cmp.{tied_itself}
-use Rattle.std.specs.List.{list_any, list_all}
-use Rattle.std.proofs.lemmas.List.Folds.{list_any_more}
-use Rattle.eco_ids.specs.Answer.{is_least_match, same_filling}
-use Rattle.eco_ids.specs.Matching.{pattern_matches}
-use Rattle.eco_ids.specs.Order.{entity_cmp, id_cmp, is_ascending}
-use Rattle.eco_ids.specs.declared.entity.Entity.{Entity}
-use Rattle.eco_ids.specs.declared.id.Id.{Id}
-use Rattle.eco_ids.specs.declared.id.Id.TheVariants as id
-use Rattle.eco_ids.specs.declared.pattern.Part.{Part}
-use Rattle.eco_ids.specs.declared.pattern.Part.TheVariants.{Is, Each, Any}
-use Rattle.eco_ids.specs.declared.pattern.Pattern.{Pattern}
-use Rattle.eco_ids.specs.declared.pattern.Pattern.TheVariants.{One, Two}
-use Rattle.eco_ids.proofs.Ascending.{first, second, less, all_at}
-use Rattle.eco_ids.proofs.IdOrder.{id_cmp_total}
-use Rattle.eco_entries.specs.Answers.{parts_alike}
-use Rattle.eco_entries.specs.Fillings.{asked_for, filling, fills, HasSeen, SeesMore}
-use Rattle.eco_entries.specs.Seen.{is_seen}
 use Rattle.eco_entries.specs.declared.seen.Seen.{Seen}
+use Rattle.eco_ids.specs.declared.id.Id.TheVariants as id
 
 not_below : (x y : Id) → IsTrue (is_lt (id_cmp x y)) → is_lt (id_cmp y x) ≡ false
 not_below x y h = ap is_lt (id_cmp_total.antisymm y x ∙ ap ordering_reverse (less _ h))

@@ -1,12 +1,8 @@
 -- Items written one after another, with commas between.
-use Rattle.std.proofs.Common.{◌≡◌, ℕ, ◌+◌, ◌<◌, List, ◌∷◌, [], ◌++◌, append-nil, codes, length, take, get_or, Option, refl, ap, sym, ◌∙◌}
-use Rattle.std.proofs.lemmas.Grind.{put_two}
-use Rattle.std.proofs.lemmas.List.{flat_map_more, take_more}
-use Rattle.std.specs.Fmt.{HasWritten}
+use Rattle.eco_formats.proofs.Common.{◌≡◌, ℕ, ◌+◌, ◌<◌, List, ◌∷◌, [], ◌++◌, append-nil, codes, length, take, get_or, Option, refl}
+use Rattle.eco_formats.proofs.Common.{ap, sym, ◌∙◌, put_two, flat_map_more, take_more, HasWritten, held_text, joined_by_commas, Shown}
 use Rattle.std.specs.declared.fmt.Formatter.{Formatter}
 use Rattle.eco_ids.specs.declared.id.Id.{Id}
-use Rattle.eco_formats.specs.Lines.{held_text, joined_by_commas}
-use Rattle.eco_formats.specs.Values.{Shown}
 
 pub same_held : (i j : Id) (v w : Option Shown) → i ≡ j → v ≡ w → held_text i v ≡ held_text j w
 same_held i j v w p q = rw (p, q) refl

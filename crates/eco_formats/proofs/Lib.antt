@@ -1,2 +1,3 @@
+pub mod Common
 pub mod Joined
 pub mod Recorded

@@ -1,16 +1,14 @@
 -- Texts that are read one after another on one world.
-use Rattle.std.proofs.Common.{◌≡◌, ◌<◌, ℕ, ◌+◌, ◌||◌, zero, suc, false, List, [], ◌∷◌, ◌++◌, flat_map, length, take, drop, Option, Some, None}
-use Rattle.std.proofs.Common.{Result, Ok, Err, OnOk, is_err, IsTrue, IsFalse, refl, sym, ap, subst, ◌∙◌, option_map, slice_get, arith}
+use Rattle.eco_formats.proofs.Common.{◌≡◌, ◌<◌, ℕ, ◌+◌, ◌||◌, zero, suc, false, List, [], ◌∷◌, ◌++◌, flat_map, length, take, drop}
+use Rattle.eco_formats.proofs.Common.{Option, Some, None, Result, Ok, Err, OnOk, is_err, IsTrue, IsFalse, refl, sym, ap, subst, ◌∙◌, option_map}
+use Rattle.eco_formats.proofs.Common.{slice_get, arith, flat_map-append, append-nil, take_more, take-append-drop, ReadsCommand, ReadsCommands, ReadsEach}
 use Rattle.std.specs.Option.{IsSome}
-use Rattle.std.proofs.lemmas.Grind.{flat_map-append}
-use Rattle.std.proofs.lemmas.List.{append-nil, take_more, take-append-drop}
 use Rattle.std.proofs.lemmas.Option.{get_or_from_slice_get, slice_get_within}
 use Rattle.eco_ids.specs.declared.refusal.Refusal.{Refusal}
-use Rattle.eco_ids.specs.Run as run
 use Rattle.eco_ids.specs.World.{WorldState}
 use Rattle.eco_grammar.specs.Readings.{ok_map}
 use Rattle.eco_steps.specs.Commands.{WrittenCommand}
-use Rattle.eco_formats.specs.Recording.{ReadsCommand, ReadsCommands, ReadsEach}
+use Rattle.eco_ids.specs.Run as run
 
 -- what is there in a list is there in a view of it
 pub some_within : {A B : Type 0} (f : A → B) (o : Option A) (xs : List B) (i : ℕ) → option_map f o ≡ slice_get xs i → i < length xs → IsSome o

@@ -1,10 +1,7 @@
 -- Systems that declare the same have the same batches.
-use Rattle.std.proofs.Common.{◌≡◌, List, [], ◌∷◌, ◌++◌, inl, inr, IsTrue, sym, subst}
-use Rattle.std.specs.List.{AllZip, list_any}
+use Rattle.eco_frame.proofs.Common.{◌≡◌, List, [], ◌∷◌, ◌++◌, inl, inr, IsTrue, sym, subst, AllZip, list_any, WorldState, joined, AreBatches}
+use Rattle.eco_frame.proofs.Common.{AreCut, AreTogether, Conflict, IsParted, SystemModel, system_reads}
 use Rattle.eco_ids.specs.Matching.{pattern_overlaps}
-use Rattle.eco_ids.specs.World.{WorldState}
-use Rattle.eco_systems.specs.Batches.{joined, AreBatches, AreCut, AreTogether, Conflict, IsParted}
-use Rattle.eco_systems.specs.Systems.{SystemModel, system_reads}
 use Rattle.eco_systems.specs.Writes.{IsClosedWrite, IsTraitWriter, SomeOf}
 
 -- they declare the same

@@ -1,25 +1,10 @@
 -- From what workers answer for the pieces of a batch to what its systems record.
-use Rattle.std.proofs.Common.{◌≡◌, ℕ, ◌<◌, ◌≤◌, Bool, List, [], ◌∷◌, ◌++◌, map, length, refl, sym, ap, ◌∙◌, subst, append_assoc, arith}
-use Rattle.std.proofs.Common.{flat_map, option_map, option_to_list, unwrap_or, inl, inr}
-use Rattle.std.proofs.Common.{length-append, IfErr, IfOk, Result, Ok, Err}
-use Rattle.std.proofs.lemmas.List.{length-map}
-use Rattle.std.proofs.lemmas.Option.{slice_get-map, slice_get_cases}
-use Rattle.std.specs.List.{AllByRecursion, AllZip}
-use Rattle.eco_ids.specs.declared.entity.Entity.{Entity}
-use Rattle.eco_ids.specs.declared.pattern.Pattern.{Pattern}
-use Rattle.eco_ids.specs.Run.{Command}
-use Rattle.eco_ids.specs.World.{WorldState}
-use Rattle.eco_systems.specs.Batches.{joined}
-use Rattle.eco_systems.specs.Recording.{BatchRecords, pieces_of}
-use Rattle.eco_systems.specs.Rows.{ValuedRow, valued_rows}
-use Rattle.eco_systems.specs.Systems.{SystemModel}
-use Rattle.eco_batches.specs.Outlines.{no_system}
-use Rattle.eco_bodies.specs.declared.systems.System.{System}
-use Rattle.eco_workers.specs.Batches.{AreStages, IsBatch, IsOut}
-use Rattle.eco_stages.specs.Taking.{by_index, fresh}
-use Rattle.eco_stages.specs.Merging.{all_commands}
-use Rattle.eco_frame.specs.Models.{model_at, model_of}
-use Rattle.eco_frame.specs.Pieces.{HasFewPieces, IsRecorded, Settled, part_at, body_with_rows, piece_commands, piece_taken, pieces_at, pieces_in}
+use Rattle.eco_frame.proofs.Common.{◌≡◌, ℕ, ◌<◌, ◌≤◌, Bool, List, [], ◌∷◌, ◌++◌, map, length, refl, sym, ap, ◌∙◌, subst}
+use Rattle.eco_frame.proofs.Common.{append_assoc, arith, flat_map, option_map, option_to_list, unwrap_or, inl, inr, length-append, IfErr, IfOk, Result, Ok, Err}
+use Rattle.eco_frame.proofs.Common.{length-map, slice_get-map, slice_get_cases, AllByRecursion, AllZip, Entity, Pattern, Command, WorldState, joined}
+use Rattle.eco_frame.proofs.Common.{BatchRecords, pieces_of, ValuedRow, valued_rows, SystemModel, no_system, System, AreStages, IsBatch, IsOut, by_index, fresh}
+use Rattle.eco_frame.proofs.Common.{all_commands, model_at, model_of, HasFewPieces, IsRecorded, Settled, part_at, body_with_rows, piece_commands, piece_taken}
+use Rattle.eco_frame.proofs.Common.{pieces_at, pieces_in}
 use Rattle.eco_frame.proofs.Fresh.{ascending_batch, fresh_batch}
 use Rattle.eco_frame.proofs.Grouped.{AreGrouped, grouped, joined_map}
 use Rattle.eco_frame.proofs.Recorded.{pieces_record}

@@ -1,7 +1,6 @@
 -- The rows of a piece, by their places among all.
-use Rattle.std.proofs.Common.{◌≡◌, ◌+◌, ◌-◌, ◌<◌, ◌≤◌, ℕ, List, Some, drop, get_or, length, slice_get, take, ap, ◌∙◌, arith}
-use Rattle.std.proofs.lemmas.List.{get_or-drop, get_or-take, length-drop, length-take-le}
-use Rattle.std.proofs.lemmas.Option.{get_or_from_slice_get, slice_get-get_or}
+use Rattle.eco_frame.proofs.Common.{◌≡◌, ◌+◌, ◌-◌, ◌<◌, ◌≤◌, ℕ, List, Some, drop, get_or, length, slice_get, take, ap, ◌∙◌}
+use Rattle.eco_frame.proofs.Common.{arith, get_or-drop, get_or-take, length-drop, length-take-le, get_or_from_slice_get, slice_get-get_or}
 
 -- each has at a place what all have there
 pub row_at : {X : Type 0} (rows : List X) (first place end : ℕ) (row : X) → first ≤ place → place < end → end ≤ length rows

@@ -1,12 +1,9 @@
 -- Rows are cut into pieces one after another, from the first row on.
-use Rattle.std.proofs.Common.{◌≡◌, ℕ, zero, suc, ◌+◌, ◌-◌, ◌<◌, ◌≤◌, min, List, [], ◌∷◌, ◌++◌, flat_map, get_or, map, take, drop, length}
-use Rattle.std.proofs.Common.{refl, sym, ap, ◌∙◌, append_assoc, arith}
+use Rattle.eco_frame.proofs.Common.{◌≡◌, ℕ, zero, suc, ◌+◌, ◌-◌, ◌<◌, ◌≤◌, min, List, [], ◌∷◌, ◌++◌, flat_map, get_or, map}
+use Rattle.eco_frame.proofs.Common.{take, drop, length, refl, sym, ap, ◌∙◌, append_assoc, arith, append-nil, drop-drop, length-drop, map_push, take_min}
+use Rattle.eco_frame.proofs.Common.{take_more, cut, pieces_of, ValuedRow, pieces_in}
 use Rattle.std.proofs.lemmas.Grind.{flat_map-append}
-use Rattle.std.proofs.lemmas.List.{append-nil, drop-drop, length-drop, map_push, take_min, take_more}
 use Rattle.std.proofs.Math.Seq.{drop-nil}
-use Rattle.eco_systems.specs.Recording.{cut, pieces_of}
-use Rattle.eco_systems.specs.Rows.{ValuedRow}
-use Rattle.eco_frame.specs.Pieces.{pieces_in}
 
 cut_nil : (n : ℕ) → cut n [] ≡ []
 cut_nil zero = refl

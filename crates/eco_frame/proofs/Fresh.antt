@@ -1,23 +1,17 @@
 -- Batches of which each number from a base to below a limit is drawn once: as fresh handles, their draws are what frames ask of draws.
-use Rattle.std.proofs.Common.{◌≡◌, ℕ, zero, suc, ◌+◌, ◌-◌, ◌<◌, ◌≤◌, min, Bool, true, not, cond, ◌&&◌, ◌||◌, eqb, ltb, List, [], ◌∷◌, ◌++◌}
-use Rattle.std.proofs.Common.{length, map, IsTrue, is_eq, is_lt, refl, sym, ap, ◌∙◌, subst, arith}
-use Rattle.std.specs.List.{All, AllByRecursion, concat, list_all, range_with_len}
+use Rattle.eco_frame.proofs.Common.{◌≡◌, ℕ, zero, suc, ◌+◌, ◌-◌, ◌<◌, ◌≤◌, min, Bool, true, not, cond, ◌&&◌, ◌||◌, eqb, ltb}
+use Rattle.eco_frame.proofs.Common.{List, [], ◌∷◌, ◌++◌, length, map, IsTrue, is_eq, is_lt, refl, sym, ap, ◌∙◌, subst, arith, All}
+use Rattle.eco_frame.proofs.Common.{AllByRecursion, concat, list_all, range_with_len, length-map, map-append, Entity, Command, IsInTurn, IsOutInTurn, IsBatch}
+use Rattle.eco_frame.proofs.Common.{IsOut, joined, AreAscending, AreFresh, BatchDraws, all_drawn, fresh_entity, fresh_from}
 use Rattle.std.specs.Ordering.{nat_cmp, ordering_then}
 use Rattle.std.proofs.lemmas.Bool.Decides.{nat_tests}
-use Rattle.std.proofs.lemmas.List.{length-map, map-append}
 use Rattle.std.proofs.lemmas.List.Elements.{All-cons, All-head, All-nil, All-tail}
-use Rattle.eco_ids.specs.declared.entity.Entity.{Entity}
 use Rattle.eco_ids.specs.Layout.{is_distinct}
 use Rattle.eco_ids.specs.Order.{entity_cmp, has_item, is_ascending}
 use Rattle.eco_ids.proofs.Ascending.{both}
 use Rattle.eco_ids.proofs.IdOrder.{entity_cmp_total, same_entity}
 use Rattle.eco_ids.proofs.Members.{same_members}
 use Rattle.eco_workers.specs.Counting.{total, times, once, all_above, ascends}
-use Rattle.eco_ids.specs.Run.{Command}
-use Rattle.eco_workers.specs.Alone.{IsInTurn, IsOutInTurn}
-use Rattle.eco_workers.specs.Batches.{IsBatch, IsOut}
-use Rattle.eco_systems.specs.Batches.{joined}
-use Rattle.eco_systems.specs.Frames.{AreAscending, AreFresh, BatchDraws, all_drawn, fresh_entity, fresh_from}
 
 -- numbers, each of which stands once
 

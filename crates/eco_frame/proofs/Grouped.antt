@@ -1,9 +1,5 @@
 -- The pieces of a batch, grouped by system: their draws and their stages are grouped in the same way.
-use Rattle.std.proofs.Common.{◌≡◌, ℕ, List, [], ◌∷◌, ◌++◌, map, refl, sym, ap, ◌∙◌}
-use Rattle.std.proofs.lemmas.List.{map-append}
-use Rattle.eco_ids.specs.Run.{Command}
-use Rattle.eco_systems.specs.Batches.{joined}
-use Rattle.eco_workers.specs.Batches.{AreStages}
+use Rattle.eco_frame.proofs.Common.{◌≡◌, ℕ, List, [], ◌∷◌, ◌++◌, map, refl, sym, ap, ◌∙◌, map-append, Command, joined, AreStages}
 
 pub joined_map : {A B : Type 0} (f : A → B) (xss : List (List A)) → joined (map (map f) xss) ≡ map f (joined xss)
 joined_map f [] = refl

@@ -1,3 +1,4 @@
+pub mod Common
 pub mod Alike
 pub mod Batched
 pub mod Between

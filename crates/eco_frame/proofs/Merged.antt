@@ -1,20 +1,12 @@
 -- A batch that was recorded and merged has run.
-use Rattle.std.proofs.Common.{◌≡◌, ℕ, ◌+◌, ◌≤◌, Bool, true, true≢false, List, [], ◌∷◌, length, Ok, Err, is_ok, refl, sym, ap, ◌∙◌, subst}
-use Rattle.std.proofs.Common.{IsTrue, MatchBool, unwrap_or, suc}
+use Rattle.eco_frame.proofs.Common.{◌≡◌, ℕ, ◌+◌, ◌≤◌, Bool, true, true≢false, List, [], ◌∷◌, length, Ok, Err, is_ok, refl, sym, ap}
+use Rattle.eco_frame.proofs.Common.{◌∙◌, subst, IsTrue, MatchBool, unwrap_or, suc, NoMoreIds, OutOfMemory, Command, Runs, WorldState, entities}
+use Rattle.eco_frame.proofs.Common.{FrameOutcomes, with_admitted, SystemModel, Merges, RunsAdmitted, IsRecorded, CountsReport, HasRun, Progress}
 use Rattle.std.specs.Result.{result_ok}
 use Rattle.std.proofs.lemmas.Bool.{le-leb}
 use Rattle.eco_ids.specs.declared.refusal.Refusal.{Refusal}
-use Rattle.eco_ids.specs.declared.refusal.Refusal.TheVariants.{NoMoreIds, OutOfMemory}
 use Rattle.eco_ids.specs.Births.{may_admit}
 use Rattle.eco_ids.specs.Outcome.{Meets, Refuses}
-use Rattle.eco_ids.specs.Run.{Command, Runs}
-use Rattle.eco_ids.specs.World.{WorldState, entities}
-use Rattle.eco_systems.specs.Frames.{FrameOutcomes, with_admitted}
-use Rattle.eco_systems.specs.Systems.{SystemModel}
-use Rattle.eco_world.specs.Merging.{Merges, RunsAdmitted}
-use Rattle.eco_frame.specs.Pieces.{IsRecorded}
-use Rattle.eco_frame.specs.Progresses.{CountsReport, HasRun}
-use Rattle.eco_frame.specs.declared.progress.Progress.{Progress}
 
 -- one outcome for each command
 runs_length : (w : WorldState) (cs : List Command) (os : FrameOutcomes) (new : WorldState) → Runs w cs os new → length os ≡ length cs

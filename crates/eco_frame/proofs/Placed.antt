@@ -1,20 +1,10 @@
 -- The batches of declared systems are those of the systems.
-use Rattle.std.proofs.Common.{◌≡◌, ℕ, zero, suc, ◌+◌, ◌==◌, List, [], ◌∷◌}
-use Rattle.std.proofs.Common.{◌++◌, Some, refl, sym, ap, ◌∙◌, map, if◌then◌else◌}
-use Rattle.std.proofs.Common.{slice_get, unwrap_or}
-use Rattle.std.specs.Prelude.{flat_map}
-use Rattle.std.specs.List.{AllZip}
-use Rattle.std.proofs.lemmas.List.{map-append}
-use Rattle.eco_ids.specs.World.{WorldState}
+use Rattle.eco_frame.proofs.Common.{◌≡◌, ℕ, zero, suc, ◌+◌, ◌==◌, List, [], ◌∷◌, ◌++◌, Some, refl, sym, ap, ◌∙◌, map}
+use Rattle.eco_frame.proofs.Common.{if◌then◌else◌, slice_get, unwrap_or, flat_map, AllZip, map-append, WorldState, joined, OrderHasSystems, in_order}
+use Rattle.eco_frame.proofs.Common.{order_of, phases, positions_from, phase_rank, SystemModel, ArePlacedBatches, system_at, system_of, systems_of, Declared}
+use Rattle.eco_frame.proofs.Common.{ArePlaced, Declares, model_at}
 use Rattle.eco_ids.proofs.Further.{found_at}
-use Rattle.eco_systems.specs.Batches.{joined}
-use Rattle.eco_systems.specs.Laws.{OrderHasSystems}
-use Rattle.eco_systems.specs.Phases.{in_order, order_of, phases, positions_from, phase_rank}
-use Rattle.eco_systems.specs.Systems.{SystemModel}
 use Rattle.eco_systems.specs.declared.phase.Phase.{Phase}
-use Rattle.eco_batches.specs.Outlines.{ArePlacedBatches, system_at, system_of, systems_of}
-use Rattle.eco_batches.specs.declared.declaration.Declared.{Declared}
-use Rattle.eco_frame.specs.Models.{ArePlaced, Declares, model_at}
 use Rattle.eco_frame.proofs.Alike.{Alike, Same, same_batches}
 
 joined_map : (at : ℕ → SystemModel) (places : List (List ℕ)) → map at (joined places) ≡ joined (map (map at) places)

@@ -1,21 +1,10 @@
 -- Frames that ran, and their reports.
-use Rattle.std.proofs.Common.{◌≡◌, ℕ, zero, suc, ◌<◌, ◌≤◌, List, [], ◌∷◌, ◌++◌, length, map, take, drop, Result, Ok, Err, refl, sym, ap, ◌∙◌, subst, arith}
-use Rattle.std.proofs.Common.{le_of_suc-le-suc}
-use Rattle.std.proofs.lemmas.List.{map-append, take-append-drop, take_all}
-use Rattle.std.specs.List.{AllByRecursion}
+use Rattle.eco_frame.proofs.Common.{◌≡◌, ℕ, zero, suc, ◌<◌, ◌≤◌, List, [], ◌∷◌, ◌++◌, length, map, take, drop, Result, Ok, Err}
+use Rattle.eco_frame.proofs.Common.{refl, sym, ap, ◌∙◌, subst, arith, le_of_suc-le-suc, map-append, take-append-drop, take_all, AllByRecursion}
+use Rattle.eco_frame.proofs.Common.{WorldState, AreBatches, joined, AscendingRuns, BatchDraws, BatchRuns, BatchRunsSolo, FrameOutcomes, FramesAreSolo}
+use Rattle.eco_frame.proofs.Common.{StoppedAreSolo, in_order, IsLawfulSystem, SystemModel, ArePlaced, model_at, HasFewPieces, HaveRun, RunsBy, done_of}
+use Rattle.eco_frame.proofs.Common.{FrameDone, Frames, IsFrameBy, Progress, FrameStop}
 use Rattle.eco_ids.specs.Lawful.{IsLawful}
-use Rattle.eco_ids.specs.World.{WorldState}
-use Rattle.eco_systems.specs.Batches.{AreBatches, joined}
-use Rattle.eco_systems.specs.Frames.{AscendingRuns, BatchDraws, BatchRuns, BatchRunsSolo, FrameOutcomes}
-use Rattle.eco_systems.specs.Laws.{FramesAreSolo, StoppedAreSolo}
-use Rattle.eco_systems.specs.Phases.{in_order}
-use Rattle.eco_systems.specs.Systems.{IsLawfulSystem, SystemModel}
-use Rattle.eco_frame.specs.Models.{ArePlaced, model_at}
-use Rattle.eco_frame.specs.Pieces.{HasFewPieces}
-use Rattle.eco_frame.specs.Progresses.{HaveRun, RunsBy, done_of}
-use Rattle.eco_frame.specs.Reports.{FrameDone, Frames, IsFrameBy}
-use Rattle.eco_frame.specs.declared.progress.Progress.{Progress}
-use Rattle.eco_frame.specs.declared.stop.FrameStop.{FrameStop}
 use Rattle.eco_frame.proofs.Turns.{turns_weaker}
 
 map_twice : {V A X : Type 0} (f : A → X) (items : V → List A) (vs : List V) → map (λ v. map f (items v)) vs ≡ map (map f) (map items vs)

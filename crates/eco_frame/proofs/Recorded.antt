@@ -1,19 +1,8 @@
 -- What pieces record is what their systems record.
-use Rattle.std.proofs.Common.{◌≡◌, ℕ, ◌≤◌, List, [], ◌∷◌, ◌++◌, map, take, drop, length, Bool, refl, sym, ap, ◌∙◌, subst, arith}
-use Rattle.std.proofs.Common.{length-append, eq-eqb}
-use Rattle.std.proofs.lemmas.List.{take-append-drop, length-take-le, length-map, nil_from_length}
-use Rattle.eco_ids.specs.declared.entity.Entity.{Entity}
-use Rattle.eco_ids.specs.declared.pattern.Pattern.{Pattern}
-use Rattle.eco_ids.specs.Run.{Command}
-use Rattle.eco_systems.specs.Batches.{joined}
-use Rattle.eco_systems.specs.Recording.{PiecesRecord, RowsRecord}
-use Rattle.eco_systems.specs.Rows.{ValuedRow}
-use Rattle.eco_bodies.specs.Taking.{commands_in_turn, taken_of}
-use Rattle.eco_bodies.specs.declared.systems.System.{System}
-use Rattle.eco_workers.specs.Batches.{AreStages}
-use Rattle.eco_stages.specs.Taking.{by_index, fresh}
-use Rattle.eco_frame.specs.Models.{model_of}
-use Rattle.eco_frame.specs.Pieces.{Settled, piece_commands, piece_taken}
+use Rattle.eco_frame.proofs.Common.{◌≡◌, ℕ, ◌≤◌, List, [], ◌∷◌, ◌++◌, map, take, drop, length, Bool, refl, sym, ap, ◌∙◌, subst}
+use Rattle.eco_frame.proofs.Common.{arith, length-append, eq-eqb, take-append-drop, length-take-le, length-map, nil_from_length, Entity, Pattern, Command}
+use Rattle.eco_frame.proofs.Common.{joined, PiecesRecord, RowsRecord, ValuedRow, commands_in_turn, taken_of, System, AreStages, by_index, fresh, model_of}
+use Rattle.eco_frame.proofs.Common.{Settled, piece_commands, piece_taken}
 
 module _ {B : Type 0} (reads writes : B → List Pattern) (kills : B → Bool) (taken : B → ValuedRow → List Entity → ℕ)
     (commands : B → ValuedRow → List Entity → List Command) (settled : Settled taken commands) where

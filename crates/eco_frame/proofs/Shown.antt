@@ -1,13 +1,12 @@
 -- The values of a row, slot by slot.
-use Rattle.std.proofs.Common.{◌≡◌, ℕ, zero, suc, List, [], ◌∷◌, Option, None, Some, refl, sym, ap, ◌∙◌, slice_get, option_copied, map}
-use Rattle.std.proofs.lemmas.Option.{slice_get-get_or, slice_get_past}
+use Rattle.eco_frame.proofs.Common.{◌≡◌, ℕ, zero, suc, List, [], ◌∷◌, Option, None, Some, refl, sym, ap, ◌∙◌, slice_get, option_copied, map}
+use Rattle.eco_frame.proofs.Common.{slice_get-get_or, slice_get_past, entry_value, entry_values}
 use Rattle.std.specs.Borrow.{Bor}
 use Rattle.std.specs.Slice.{IsItemAt}
 use Rattle.eco_ids.specs.declared.id.Id.{Id}
 use Rattle.eco_ids.specs.declared.value.Value.{Value}
 use Rattle.eco_query.specs.declared.slot.Slot.{Slot}
 use Rattle.eco_query.specs.Queries.{QuerySlot, slot_view}
-use Rattle.eco_systems.specs.Rows.{entry_value, entry_values}
 use Rattle.eco_bodies.specs.Lent.{item_at}
 
 -- what `get` finds

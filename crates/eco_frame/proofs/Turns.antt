@@ -1,14 +1,7 @@
 -- Batches that ran one after another, and one more.
-use Rattle.std.proofs.Common.{◌≡◌, ℕ, ◌+◌, List, [], ◌∷◌, ◌++◌, length, map, take, vec_len, refl, sym, ap, ◌∙◌, subst, append_assoc, arith}
-use Rattle.std.proofs.Common.{length-append}
-use Rattle.std.proofs.lemmas.List.{append-nil}
-use Rattle.eco_ids.specs.World.{WorldState}
-use Rattle.eco_systems.specs.Batches.{joined}
-use Rattle.eco_systems.specs.Frames.{BatchDraws, InTurn, FrameOutcomes, all_drawn}
-use Rattle.eco_systems.specs.Systems.{SystemModel}
-use Rattle.eco_frame.specs.Progresses.{HasRun, HaveRun, RunsBy}
-use Rattle.eco_frame.specs.Reports.{drawn_in}
-use Rattle.eco_frame.specs.declared.progress.Progress.{Progress}
+use Rattle.eco_frame.proofs.Common.{◌≡◌, ℕ, ◌+◌, List, [], ◌∷◌, ◌++◌, length, map, take, vec_len, refl, sym, ap, ◌∙◌, subst}
+use Rattle.eco_frame.proofs.Common.{append_assoc, arith, length-append, append-nil, WorldState, joined, BatchDraws, InTurn, FrameOutcomes, all_drawn}
+use Rattle.eco_frame.proofs.Common.{SystemModel, HasRun, HaveRun, RunsBy, drawn_in, Progress}
 
 module _ (Goes : WorldState → List SystemModel → BatchDraws → FrameOutcomes → WorldState → Type 0) where
   -- one batch more goes

@@ -1,9 +1,7 @@
 -- The positions in batches are those of systems.
-use Rattle.std.proofs.Common.{◌≡◌, ℕ, ◌<◌, List, [], ◌∷◌, ◌++◌, None, Some, ap, drop, length, map, slice_get, subst, sym, unwrap_or, arith}
+use Rattle.eco_frame.proofs.Common.{◌≡◌, ℕ, ◌<◌, List, [], ◌∷◌, ◌++◌, None, Some, ap, drop, length, map, slice_get, subst, sym, unwrap_or}
+use Rattle.eco_frame.proofs.Common.{arith, slice_get_within, All, AllByRecursion, joined}
 use Rattle.std.proofs.lemmas.List.Elements.{All-from_recursion}
-use Rattle.std.proofs.lemmas.Option.{slice_get_within}
-use Rattle.std.specs.List.{All, AllByRecursion}
-use Rattle.eco_systems.specs.Batches.{joined}
 
 -- at each of the positions stands something
 all_within : {A : Type 0} (xs : List A) (order : List ℕ) (found : List A) → map (slice_get xs) order ≡ map Some found

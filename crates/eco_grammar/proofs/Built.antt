@@ -1,29 +1,17 @@
 -- The loops from the atoms of a text to its query, each against the slots that the atoms make.
-use Rattle.eco_ids.proofs.Common.{◌≡◌, ℕ, ◌+◌, ◌<◌, ◌≤◌, Bool, true, false, ◌&&◌, ◌||◌, List, [], ◌∷◌, ◌++◌, length, get_or, drop, if◌then◌else◌}
-use Rattle.eco_ids.proofs.Common.{Some, None, Ok, Err, Option, Result, sym, refl, ap, ◌∙◌, subst, append_assoc, append-nil, arith, list_any}
-use Rattle.eco_ids.proofs.Common.{common_steps}
-use Rattle.eco_ids.specs.declared.entity.Entity.{Entity}
-use Rattle.eco_ids.specs.declared.id.Id.{Id}
-use Rattle.eco_ids.specs.declared.refusal.Refusal.{Refusal}
+use Rattle.eco_grammar.proofs.Common.{◌≡◌, ℕ, ◌+◌, ◌<◌, ◌≤◌, Bool, true, false, ◌&&◌, ◌||◌, List, [], ◌∷◌, ◌++◌, length}
+use Rattle.eco_grammar.proofs.Common.{get_or, drop, if◌then◌else◌, Some, None, Ok, Err, Option, Result, sym, refl, ap, ◌∙◌, subst, append_assoc}
+use Rattle.eco_grammar.proofs.Common.{append-nil, arith, list_any, common_steps, Entity, Id, Refusal, WrittenAtom, alternatives, WrittenSlot, has_wildcard}
+use Rattle.eco_grammar.proofs.Common.{IsProperAtom, AreProperMarks, QuerySlot, ok_map, ok_both, id_of, ids_of, term_of_body, slots_of_written}
+use Rattle.eco_grammar.proofs.Common.{misplaces_wildcard, is_positive_body, slots_from, grouping, AreWhole, body_of, is_bare_head, some_of, ends_positive}
+use Rattle.eco_grammar.proofs.Common.{last_of, misplaces_last, term_with, left_over, Access, Mark, Head, Plain, Not, Optional, Alone, LastTerm, atom_view}
 use Rattle.std.proofs.Math.Bool.{or-false, or-true}
 use Rattle.std.proofs.lemmas.List.{drop_all, drop_more}
 use Rattle.std.proofs.lemmas.List.Folds.{list_any-append}
 use Rattle.eco_ids.specs.Terms as terms
-use Rattle.eco_scan.specs.Grammar.{WrittenAtom, alternatives, WrittenSlot, has_wildcard}
-use Rattle.eco_grammar.specs.Proper.{IsProperAtom, AreProperMarks}
-use Rattle.eco_query.specs.Queries.{QuerySlot}
-use Rattle.eco_grammar.specs.Readings.{ok_map, ok_both, id_of, ids_of, term_of_body, slots_of_written, misplaces_wildcard, is_positive_body}
-use Rattle.eco_scan.specs.Marks.{slots_from, grouping, AreWhole, body_of, is_bare_head, some_of}
-use Rattle.eco_grammar.specs.LastTerms.{ends_positive, last_of, misplaces_last, term_with, left_over}
 use Rattle.eco_scan.specs.declared.written.WrittenAtom as written
-use Rattle.eco_query.specs.declared.access.Access.{Access}
-use Rattle.eco_scan.specs.declared.point.Mark.{Mark}
 use Rattle.eco_scan.specs.declared.point.Mark.TheVariants as marks
-use Rattle.eco_scan.specs.declared.point.Head.{Head}
-use Rattle.eco_scan.specs.declared.point.Head.TheVariants.{Plain, Not, Optional, Alone}
-use Rattle.eco_grammar.specs.declared.last_term.LastTerm.{LastTerm}
 use Rattle.eco_grammar.specs.declared.last_term.LastTerm.TheVariants as last
-use Rattle.eco_scan.specs.Views.{atom_view}
 
 pub some_of-more : (xs : List WrittenAtom) (x : WrittenAtom) → some_of (xs ++ x ∷ []) ≡ true
 some_of-more [] x = refl

@@ -1,23 +1,13 @@
 -- What is made of a text keeps to what a query keeps to.
-use Rattle.eco_ids.proofs.Common.{◌≡◌, ℕ, suc, ◌≤◌, false, List, [], ◌∷◌, ◌++◌, length, drop}
-use Rattle.eco_ids.proofs.Common.{Ok, Err, Option, Result, sym, refl, ap, ◌∙◌, subst, arith, IsTrue, list_any, AllByRecursion, length-append, length-map}
-use Rattle.eco_ids.specs.declared.entity.Entity.{Entity}
-use Rattle.eco_ids.specs.declared.id.Id.{Id}
-use Rattle.eco_ids.specs.declared.refusal.Refusal.{Refusal}
-use Rattle.eco_ids.specs.Terms as terms
-use Rattle.eco_ids.specs.Terms.{QueryTerm}
-use Rattle.eco_scan.specs.Grammar.{WrittenAtom, WrittenBody, alternatives, WrittenSlot, atoms_of, count_atoms}
-use Rattle.eco_query.specs.Queries.{QuerySlot, exactly, patterns_of, reads, IsPattern, IsTerm, IsQuery}
+use Rattle.eco_grammar.proofs.Common.{◌≡◌, ℕ, suc, ◌≤◌, false, List, [], ◌∷◌, ◌++◌, length, drop, Ok, Err, Option, Result, sym, refl}
+use Rattle.eco_grammar.proofs.Common.{ap, ◌∙◌, subst, arith, IsTrue, list_any, AllByRecursion, length-append, length-map, Entity, Id, Refusal, QueryTerm}
+use Rattle.eco_grammar.proofs.Common.{WrittenAtom, WrittenBody, alternatives, WrittenSlot, atoms_of, count_atoms, QuerySlot, exactly, patterns_of, reads}
+use Rattle.eco_grammar.proofs.Common.{IsPattern, IsTerm, IsQuery, ok_map, ok_both, ids_of, term_of_body, slots_of_written, is_positive_body, slots_from}
+use Rattle.eco_grammar.proofs.Common.{some_of, last_of, term_with, IsLast, Mark, Head, Plain, LastTerm}
 use Rattle.eco_query.specs.Queries.{is_positive as asks_there}
-use Rattle.eco_grammar.specs.Readings.{ok_map, ok_both, ids_of, term_of_body, slots_of_written, is_positive_body}
-use Rattle.eco_scan.specs.Marks.{slots_from, some_of}
-use Rattle.eco_grammar.specs.LastTerms.{last_of, term_with, IsLast}
-use Rattle.eco_scan.specs.declared.point.Mark.{Mark}
-use Rattle.eco_scan.specs.declared.point.Head.{Head}
-use Rattle.eco_scan.specs.declared.point.Head.TheVariants.{Plain}
-use Rattle.eco_grammar.specs.declared.last_term.LastTerm.{LastTerm}
-use Rattle.eco_grammar.specs.declared.last_term.LastTerm.TheVariants as last
 use Rattle.eco_grammar.proofs.Built.{Standing, standing_end}
+use Rattle.eco_ids.specs.Terms as terms
+use Rattle.eco_grammar.specs.declared.last_term.LastTerm.TheVariants as last
 
 -- ---- what a result comes from
 

@@ -1,3 +1,4 @@
+pub mod Common
 pub mod Built
 pub mod Kept
 pub mod Queried

@@ -1,23 +1,12 @@
 -- The refusals of a query, in their order.
-use Rattle.eco_ids.proofs.Common.{◌≡◌, ℕ, ◌≤◌, false, ◌&&◌, List, [], ◌∷◌, ◌++◌, length, Option, Result, Some, None, Err, sym, refl, ap, ◌∙◌, subst, inl}
-use Rattle.eco_ids.proofs.Common.{inr, lt-ltb}
-use Rattle.std.specs.Prelude.{IsOk}
-use Rattle.eco_ids.specs.declared.entity.Entity.{Entity}
-use Rattle.eco_ids.specs.declared.refusal.Refusal.{Refusal}
-use Rattle.eco_ids.specs.declared.refusal.Refusal.TheVariants.{TooManyTerms}
-use Rattle.eco_scan.specs.Grammar.{WrittenAtom, WrittenBody, absent, optional, alternatives, WrittenSlot, AreMore, IsBody, AreMoreSlots}
-use Rattle.eco_scan.specs.Grammar.{SpellsSlots, SpellsQuery, atoms_of, count_atoms}
-use Rattle.eco_grammar.specs.Proper.{IsProperAtom, AreProperMarks}
-use Rattle.eco_query.specs.Queries.{QuerySlot}
-use Rattle.eco_grammar.specs.Readings.{query_of, InMemory, ReadsInMemory}
-use Rattle.eco_scan.specs.Marks.{slots_from, grouping, HoldsSlots, body_of, is_bare_head, some_of}
-use Rattle.eco_scan.specs.declared.point.Mark.{Mark}
-use Rattle.eco_scan.specs.declared.point.Mark.TheVariants as marks
-use Rattle.eco_scan.specs.declared.point.Head.{Head}
-use Rattle.eco_scan.specs.declared.point.Head.TheVariants.{Plain, Not, Optional, Alone}
+use Rattle.eco_grammar.proofs.Common.{◌≡◌, ℕ, ◌≤◌, false, ◌&&◌, List, [], ◌∷◌, ◌++◌, length, Option, Result, Some, None, Err, sym}
+use Rattle.eco_grammar.proofs.Common.{refl, ap, ◌∙◌, subst, inl, inr, lt-ltb, IsOk, Entity, Refusal, TooManyTerms, WrittenAtom, WrittenBody, absent}
+use Rattle.eco_grammar.proofs.Common.{optional, alternatives, WrittenSlot, AreMore, IsBody, AreMoreSlots, SpellsSlots, SpellsQuery, atoms_of, count_atoms}
+use Rattle.eco_grammar.proofs.Common.{IsProperAtom, AreProperMarks, QuerySlot, query_of, InMemory, ReadsInMemory, slots_from, grouping, HoldsSlots, body_of}
+use Rattle.eco_grammar.proofs.Common.{is_bare_head, some_of, Mark, Head, Plain, Not, Optional, Alone, atom_view}
 use Rattle.eco_grammar.proofs.Built.{slot_grouped, some_of-more}
 use Rattle.eco_grammar.proofs.Spelled.{atom_proper}
-use Rattle.eco_scan.specs.Views.{atom_view}
+use Rattle.eco_scan.specs.declared.point.Mark.TheVariants as marks
 
 -- ---- what is spelled is proper
 

@@ -1,27 +1,20 @@
 -- The canonical text of a query spells that query.
-use Rattle.eco_ids.proofs.Common.{◌≡◌, ℕ, suc, ◌-◌, ◌≤◌, true, false, List, [], ◌∷◌, ◌++◌, length, nat_lt, flat_map, codes}
-use Rattle.eco_ids.proofs.Common.{Ok, Option, sym, refl, ap, ◌∙◌, subst, inl, inr, append_assoc, arith, length-append, length-map, le-ltb, list_any}
-use Rattle.eco_ids.proofs.Common.{AllByRecursion}
-use Rattle.eco_ids.specs.declared.entity.Entity.{Entity}
-use Rattle.eco_ids.specs.declared.id.Id.{Id}
-use Rattle.eco_ids.specs.declared.id.Id.TheVariants.{One, Two}
+use Rattle.eco_grammar.proofs.Common.{◌≡◌, ℕ, suc, ◌-◌, ◌≤◌, true, false, List, [], ◌∷◌, ◌++◌, length, nat_lt, flat_map, codes, Ok}
+use Rattle.eco_grammar.proofs.Common.{Option, sym, refl, ap, ◌∙◌, subst, inl, inr, append_assoc, arith, length-append, length-map, le-ltb, list_any}
+use Rattle.eco_grammar.proofs.Common.{AllByRecursion, Entity, Id, One, Two, QueryTerm, WrittenPart, named, each, any, WrittenAtom, single, pair, WrittenBody}
+use Rattle.eco_grammar.proofs.Common.{absent, optional, alternatives, WrittenSlot, IsPart, IsAtom, AreMore, IsBody, IsSlot, AreMoreSlots, SpellsQuery}
+use Rattle.eco_grammar.proofs.Common.{has_wildcard, is_lone_wildcard, atoms_of, count_atoms, QuerySlot, exactly, patterns_of, reads, IsPatternPart, IsPattern}
+use Rattle.eco_grammar.proofs.Common.{IsTerm, IsQuery, Reads, id_of, ids_of, part_of, pattern_of_atom, term_of_body, slots_of_written, query_of, ok_map}
+use Rattle.eco_grammar.proofs.Common.{misplaces_wildcard, is_positive_body, Access, In, Out, InOut, InOutNone}
 use Rattle.eco_ids.specs.declared.pattern.Part.{Part}
 use Rattle.eco_ids.specs.declared.pattern.Part.TheVariants.{Is, Each, Any}
 use Rattle.eco_ids.specs.declared.pattern.Pattern.{Pattern}
-use Rattle.eco_ids.specs.declared.pattern.Pattern.TheVariants as pattern
-use Rattle.eco_ids.specs.Terms.{QueryTerm}
-use Rattle.eco_ids.specs.Terms as terms
 use Rattle.eco_ids.specs.Text.{entity_text, id_text, part_text, pattern_text}
 use Rattle.eco_query.specs.Canonical.{access_text, term_text, slot_text, query_text}
-use Rattle.eco_scan.specs.Grammar.{WrittenPart, named, each, any, WrittenAtom, single, pair, WrittenBody, absent, optional, alternatives, WrittenSlot}
-use Rattle.eco_scan.specs.Grammar.{IsPart, IsAtom, AreMore, IsBody, IsSlot, AreMoreSlots, SpellsQuery, has_wildcard, is_lone_wildcard, atoms_of, count_atoms}
-use Rattle.eco_query.specs.Queries.{QuerySlot, exactly, patterns_of, reads, IsPatternPart, IsPattern, IsTerm, IsQuery}
-use Rattle.eco_grammar.specs.Readings.{Reads, id_of, ids_of, part_of, pattern_of_atom, term_of_body, slots_of_written, query_of, ok_map}
-use Rattle.eco_grammar.specs.Readings.{misplaces_wildcard, is_positive_body}
 use Rattle.eco_scan.specs.Tokens.{handle, IsWhite}
-use Rattle.eco_query.specs.declared.access.Access.{Access}
-use Rattle.eco_query.specs.declared.access.Access.TheVariants.{In, Out, InOut, InOutNone}
 use Rattle.eco_grammar.proofs.Kept.{slots_positive}
+use Rattle.eco_ids.specs.declared.pattern.Pattern.TheVariants as pattern
+use Rattle.eco_ids.specs.Terms as terms
 
 behind : (xs ys : List ℕ) (n : ℕ) → length (xs ++ ys) ≤ n → length ys ≤ n
 behind xs ys n le = let long = length-append xs ys in omega arith

@@ -1,14 +1,10 @@
 -- Rows of canonical texts that compute.
-use Rattle.eco_ids.proofs.Common.{◌≡◌, [], ◌∷◌, List, codes, refl}
+use Rattle.eco_grammar.proofs.Common.{◌≡◌, [], ◌∷◌, List, codes, refl, And, Or, Entity, One, Two, QuerySlot, In, Out, InOut, InOutNone}
 use Rattle.std.specs.Fmt.{digits}
-use Rattle.eco_ids.specs.Terms.{And, Not, Optional, Or}
-use Rattle.eco_ids.specs.declared.entity.Entity.{Entity}
-use Rattle.eco_ids.specs.declared.id.Id.TheVariants.{One, Two}
+use Rattle.eco_ids.specs.Terms.{Not, Optional}
 use Rattle.eco_ids.specs.declared.pattern.Part.TheVariants.{Is, Each, Any}
-use Rattle.eco_ids.specs.declared.pattern.Pattern.TheVariants as pattern
 use Rattle.eco_query.specs.Canonical.{query_text}
-use Rattle.eco_query.specs.Queries.{QuerySlot}
-use Rattle.eco_query.specs.declared.access.Access.TheVariants.{In, Out, InOut, InOutNone}
+use Rattle.eco_ids.specs.declared.pattern.Pattern.TheVariants as pattern
 
 abbrev row_first : Entity
 row_first = record { index = 9; generation = 0 }

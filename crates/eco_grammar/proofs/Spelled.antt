@@ -1,15 +1,11 @@
 -- What is spelled is proper, and read in one way.
-use Rattle.eco_ids.proofs.Common.{◌≡◌, ℕ, zero, suc, ◌<◌, true, List, [], ◌∷◌, length, Err, Result, sym, refl, ap, ◌∙◌, inl, inr, arith, common_steps}
-use Rattle.eco_ids.proofs.Common.{list_all, nat_tests, may_begin, may_follow, is_name}
+use Rattle.eco_grammar.proofs.Common.{◌≡◌, ℕ, zero, suc, ◌<◌, true, List, [], ◌∷◌, length, Err, Result, sym, refl, ap, ◌∙◌, inl, inr}
+use Rattle.eco_grammar.proofs.Common.{arith, common_steps, list_all, nat_tests, may_begin, may_follow, is_name, Refusal, Syntax, WrittenPart, named, each, any}
+use Rattle.eco_grammar.proofs.Common.{WrittenAtom, single, pair, IsPart, IsAtom, SpellsId, IsSpelled, IsFault, SpellsOnce, SpellsOrFails, IsProperPart}
+use Rattle.eco_grammar.proofs.Common.{IsProperAtom, ReadsOnce, ReadsAll}
 use Rattle.std.specs.Str.{IsAscii, IsUtf8}
 use Rattle.std.proofs.lemmas.Str.{IsUtf8-from_ascii}
 use Rattle.std.proofs.lemmas.Bool.{and_from, and_parts}
-use Rattle.eco_ids.specs.declared.refusal.Refusal.{Refusal}
-use Rattle.eco_ids.specs.declared.refusal.Refusal.TheVariants.{Syntax}
-use Rattle.eco_scan.specs.Grammar.{WrittenPart, named, each, any, WrittenAtom, single, pair, IsPart, IsAtom, SpellsId}
-use Rattle.eco_scan.specs.Faults.{IsSpelled, IsFault, SpellsOnce, SpellsOrFails}
-use Rattle.eco_grammar.specs.Proper.{IsProperPart, IsProperAtom}
-use Rattle.eco_grammar.specs.Readings.{ReadsOnce, ReadsAll}
 
 -- ---- what is spelled is proper
 

@@ -1,16 +1,11 @@
 -- What a change of one list of edges leaves.
-use Rattle.std.proofs.Common.{◌≡◌, ◌≢◌, ℕ, zero, suc, get_or, ◌<◌, ◌≤◌, ◌&&◌, ◌||◌, Bool, true, false, cond, List, take, [], ◌∷◌, ◌++◌, length, set, Option}
-use Rattle.std.proofs.Common.{Some, None, nat_eq, refl, sym, ap, ◌∙◌, arith, Result, Ok, Err, OnOk, OnErr}
+use Rattle.eco_index.proofs.Common.{◌≡◌, ◌≢◌, ℕ, zero, suc, get_or, ◌<◌, ◌≤◌, ◌&&◌, ◌||◌, Bool, true, false, cond, List, take}
+use Rattle.eco_index.proofs.Common.{[], ◌∷◌, ◌++◌, length, set, Option, Some, None, nat_eq, refl, sym, ap, ◌∙◌, arith, Result, Ok, Err, OnOk}
+use Rattle.eco_index.proofs.Common.{OnErr, lookup, HashMap, get, slice_get_past, Decides-eqb, Id, same_id, edge, edge_of, leads_to, IsTwofold, SameEdges, Puts}
+use Rattle.eco_index.proofs.Common.{Links, Cuts, id_eq-Decides}
 use Rattle.std.specs.List.{slice_get}
-use Rattle.std.specs.Map.{lookup}
-use Rattle.std.specs.HashMap.{HashMap, get}
 use Rattle.std.proofs.lemmas.Grind.{common_steps}
-use Rattle.std.proofs.lemmas.Option.{slice_get_past}
-use Rattle.std.proofs.lemmas.Bool.Decides.{Decides-eqb}
 use Rattle.eco_ids.proofs.Lists.{slice_get-set_same, slice_get-set_other, some_at}
-use Rattle.eco_ids.specs.declared.id.Id.{Id}
-use Rattle.eco_index.specs.Edges.{same_id, edge, edge_of, leads_to, IsTwofold, SameEdges, Puts, Links, Cuts}
-use Rattle.eco_ids.proofs.SameIds.{id_eq-Decides}
 
 -- the two ways of a test
 pub way : (b : Bool) (P : Type 0) → (b ≡ true → P) → (b ≡ false → P) → P

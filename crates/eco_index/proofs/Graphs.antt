@@ -1,10 +1,6 @@
 -- The graph of tables as tables come and go.
-use Rattle.std.proofs.Common.{◌≡◌, ◌≢◌, ℕ, ◌&&◌, ◌||◌, Bool, true, false, cond, List, Option, Some, None, nat_eq, refl, sym, ap, ◌∙◌}
-use Rattle.std.specs.HashMap.{HashMap}
-use Rattle.std.proofs.lemmas.Bool.Decides.{Decides-eqb}
-use Rattle.eco_ids.specs.declared.id.Id.{Id}
-use Rattle.eco_index.specs.Edges.{same_id, edge, leads_to, Links, Cuts, IsGraph, toggled}
-use Rattle.eco_ids.proofs.SameIds.{id_eq-Decides}
+use Rattle.eco_index.proofs.Common.{◌≡◌, ◌≢◌, ℕ, ◌&&◌, ◌||◌, Bool, true, false, cond, List, Option, Some, None, nat_eq, refl, sym, ap}
+use Rattle.eco_index.proofs.Common.{◌∙◌, HashMap, Decides-eqb, Id, same_id, edge, leads_to, Links, Cuts, IsGraph, toggled, id_eq-Decides}
 use Rattle.eco_index.proofs.EdgeLists.{way, same_slot, leads_there}
 
 some_is : {X : Type 0} (x y : X) → Some x ≡ Some y → x ≡ y

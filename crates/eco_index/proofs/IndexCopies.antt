@@ -1,12 +1,6 @@
 -- An index once more: the same keys, each with the same slots.
-use Rattle.std.proofs.Common.{◌≡◌, ℕ, ◌+◌, Bool, true, false, cond, List, [], ◌∷◌, take, slice_get, Option, Some, None, refl, sym, ap, ◌∙◌, add-one, true≢false}
-use Rattle.std.specs.List.{AllZip}
-use Rattle.std.specs.Map.{lookup}
-use Rattle.eco_index.specs.declared.id_index.key.Key.{Key}
-use Rattle.eco_index.specs.declared.id_index.slots.Slots.{Slots}
-use Rattle.eco_index.specs.declared.id_index.marks.Marks.{Marks}
-use Rattle.eco_index.specs.IdIndex.{same_key, slots_of}
-use Rattle.eco_index.specs.Marks.{may_be_kept, KeepsMarks}
+use Rattle.eco_index.proofs.Common.{◌≡◌, ℕ, ◌+◌, Bool, true, false, cond, List, [], ◌∷◌, take, slice_get, Option, Some, None, refl, sym, ap}
+use Rattle.eco_index.proofs.Common.{◌∙◌, add-one, true≢false, AllZip, lookup, Key, Slots, Marks, same_key, slots_of, may_be_kept, KeepsMarks}
 use Rattle.eco_index.proofs.EdgeLists.{lookup_past}
 use Rattle.eco_index.proofs.Keys.{keys_same}
 

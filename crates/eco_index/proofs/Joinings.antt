@@ -1,19 +1,8 @@
 -- A slot comes to the lists of one id, or goes from those that no other id of the type needs.
-use Rattle.std.proofs.Common.{◌≡◌, ℕ, ◌+◌, ◌<◌, length, take, get_or, Bool, true, false, cond}
-use Rattle.std.proofs.Common.{not, ◌&&◌, ◌||◌, List, [], ◌∷◌, nat_eq, refl, sym, ap, ◌∙◌, true≢false}
-use Rattle.std.specs.List.{list_any}
-use Rattle.std.proofs.lemmas.Bool.Decides.{Decides-eqb}
-use Rattle.eco_ids.specs.declared.entity.Entity.{Entity}
-use Rattle.eco_ids.specs.declared.id.Id.{Id}
-use Rattle.eco_ids.specs.declared.id.Id.TheVariants.{One, Two}
-use Rattle.eco_ids.specs.Order.{entity_eq}
-use Rattle.eco_ids.specs.declared.pattern.Pattern.{Pattern}
-use Rattle.eco_index.specs.declared.id_index.key.Key.{Key}
-use Rattle.eco_index.specs.declared.id_index.key.Key.TheVariants.{Single, Pair, Relationship, Target, AnyPair}
-use Rattle.eco_index.specs.IdIndex.{same_key, key_of, keys_of, pattern_of, has_key, has_one, has_own, is_own, matches_id, any_matches, is_listed, lists_of}
-use Rattle.eco_index.specs.IdIndex.{Lists, Turns}
-use Rattle.eco_index.specs.declared.id_index.slots.Slots.{Slots}
-use Rattle.std.specs.HashMap.{HashMap}
+use Rattle.eco_index.proofs.Common.{◌≡◌, ℕ, ◌+◌, ◌<◌, length, take, get_or, Bool, true, false, cond, not, ◌&&◌, ◌||◌, List, []}
+use Rattle.eco_index.proofs.Common.{◌∷◌, nat_eq, refl, sym, ap, ◌∙◌, true≢false, list_any, Decides-eqb, Entity, Id, One, Two, entity_eq, Pattern}
+use Rattle.eco_index.proofs.Common.{Key, Single, Pair, Relationship, Target, AnyPair, same_key, key_of, keys_of, pattern_of, has_key, has_one, has_own, is_own}
+use Rattle.eco_index.proofs.Common.{matches_id, any_matches, is_listed, lists_of, Lists, Turns, Slots, HashMap}
 use Rattle.eco_index.proofs.Keys.{keys_same, key_matches, turned_more, turned_twice, turns_as}
 
 key_of-pattern : (k : Key) → key_of (pattern_of k) ≡ k

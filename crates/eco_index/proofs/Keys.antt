@@ -1,29 +1,15 @@
 -- Which patterns have a key, and how slots come to be listed under them.
-use Rattle.std.proofs.Common.{◌≡◌, ℕ, ◌<◌, ◌||◌, List, ◌∷◌, [], length, take, get_or, ◌+◌, Bool, true, false, cond, ◌&&◌, Option, None, Some, nat_eq, refl}
-use Rattle.std.proofs.Common.{sym, ap, ◌∙◌, arith, zero, suc, if◌then◌else◌, inl, inr, ◌⊎◌, true≢false}
-use Rattle.std.specs.List.{list_any}
-use Rattle.std.specs.HashMap.{HashMap, get}
+use Rattle.eco_index.proofs.Common.{◌≡◌, ℕ, ◌<◌, ◌||◌, List, ◌∷◌, [], length, take, get_or, ◌+◌, Bool, true, false, cond, ◌&&◌}
+use Rattle.eco_index.proofs.Common.{Option, None, Some, nat_eq, refl, sym, ap, ◌∙◌, arith, zero, suc, if◌then◌else◌, inl, inr, ◌⊎◌}
+use Rattle.eco_index.proofs.Common.{true≢false, list_any, HashMap, get, Decides-eqb, Entity, Id, Is, Each, Any, Pattern, entity_eq, Key, Single, Pair}
+use Rattle.eco_index.proofs.Common.{Relationship, Target, AnyPair, Slots, own_count, matches_some, HasTurned, same_key, key_of, keys_of, has_key, has_one}
+use Rattle.eco_index.proofs.Common.{matches_id, is_only, has_slot, is_empty, is_listed, lists_of, Lists, Marks, may_be_kept, AreMarked, KeepsMarks, Turns}
+use Rattle.eco_index.proofs.Common.{KeepsRest, ListsSame, KeepsNoEmpty, entity_eq-Decides, first, second}
 use Rattle.std.proofs.lemmas.List.Folds.{list_any_more}
-use Rattle.std.proofs.lemmas.Bool.Decides.{Decides-eqb}
-use Rattle.eco_ids.specs.declared.entity.Entity.{Entity}
-use Rattle.eco_ids.specs.declared.id.Id.{Id}
-use Rattle.eco_ids.specs.declared.id.Id.TheVariants as id
-use Rattle.eco_ids.specs.declared.pattern.Part.TheVariants.{Is, Each, Any}
-use Rattle.eco_ids.specs.declared.pattern.Pattern.{Pattern}
 use Rattle.eco_ids.specs.declared.pattern.Pattern.TheVariants.{One, Two}
-use Rattle.eco_ids.specs.Order.{entity_eq}
-use Rattle.eco_ids.specs.contracts.entity.EntityPartialEq.TheImpl as entity_impl
-use Rattle.eco_index.specs.declared.id_index.key.Key.{Key}
-use Rattle.eco_index.specs.declared.id_index.key.Key.TheVariants.{Single, Pair, Relationship, Target, AnyPair}
-use Rattle.eco_index.specs.declared.id_index.slots.Slots.{Slots}
-use Rattle.eco_index.specs.IdIndex.{own_count, matches_some, HasTurned}
-use Rattle.eco_index.specs.IdIndex.{same_key, key_of, keys_of, has_key, has_one, matches_id, is_only, has_slot, is_empty, is_listed, lists_of, Lists}
-use Rattle.eco_index.specs.declared.id_index.marks.Marks.{Marks}
-use Rattle.eco_index.specs.Marks.{may_be_kept, AreMarked, KeepsMarks}
-use Rattle.eco_index.specs.IdIndex.{Turns, KeepsRest, ListsSame, KeepsNoEmpty}
 use Rattle.eco_ids.proofs.Overlaps.{entity_eq_itself, entity_eq_is}
-use Rattle.eco_ids.proofs.SameIds.{entity_eq-Decides}
-use Rattle.eco_ids.proofs.Ascending.{first, second}
+use Rattle.eco_ids.specs.declared.id.Id.TheVariants as id
+use Rattle.eco_ids.specs.contracts.entity.EntityPartialEq.TheImpl as entity_impl
 
 pub keys_same : (k q : Key) → same_key k q ≡ true → k ≡ q
 keys_same (Single a) (Single b) e = ap Single ((entity_eq-Decides a b).0 e)

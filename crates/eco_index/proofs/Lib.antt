@@ -1,3 +1,4 @@
+pub mod Common
 pub mod EdgeLists
 pub mod Graphs
 pub mod IndexCopies

@@ -1,8 +1,7 @@
 -- Lists of slots, each once.
-use Rattle.std.proofs.Common.{◌≡◌, ℕ, zero, suc, ◌<◌, Bool, true, false, true≢false, cond, ◌||◌, nat_eq, List, [], ◌∷◌, ◌++◌, filter, length}
-use Rattle.std.proofs.Common.{get_or, refl, sym, ap, ◌∙◌, arith}
-use Rattle.std.specs.List.{list_any, IsDistinct, AllByRecursion}
-use Rattle.std.proofs.lemmas.Bool.Decides.{Decides-eqb}
+use Rattle.eco_index.proofs.Common.{◌≡◌, ℕ, zero, suc, ◌<◌, Bool, true, false, true≢false, cond, ◌||◌, nat_eq, List, [], ◌∷◌, ◌++◌}
+use Rattle.eco_index.proofs.Common.{filter, length, get_or, refl, sym, ap, ◌∙◌, arith, list_any, AllByRecursion, Decides-eqb}
+use Rattle.std.specs.List.{IsDistinct}
 use Rattle.eco_ids.proofs.Facts.{or_left, or_right}
 
 -- what passes a test passes a weaker one

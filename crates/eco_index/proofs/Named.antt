@@ -1,18 +1,10 @@
 -- Whom ids name is whom a key is kept of.
-use Rattle.std.proofs.Common.{◌≡◌, ℕ, Bool, true, false, ◌||◌, ◌↔◌, inl, inr, List, [], ◌∷◌, nat_eq, length, Option, Some, None}
-use Rattle.std.proofs.Common.{is_some, refl, sym, ap, ◌∙◌, true≢false, IsTrue}
-use Rattle.std.specs.List.{list_any}
-use Rattle.std.specs.HashMap.{HashMap, get}
+use Rattle.eco_index.proofs.Common.{◌≡◌, ℕ, Bool, true, false, ◌||◌, ◌↔◌, inl, inr, List, [], ◌∷◌, nat_eq, length, Option, Some, None}
+use Rattle.eco_index.proofs.Common.{is_some, refl, sym, ap, ◌∙◌, true≢false, IsTrue, list_any, HashMap, get, Decides-eqb, Entity, Is, Any, Pattern, Key}
+use Rattle.eco_index.proofs.Common.{Slots, is_empty, has_slot, key_of, lists_of, same_key, slots_of, KeepsNoEmpty}
 use Rattle.std.proofs.lemmas.Bool.{or_left}
-use Rattle.std.proofs.lemmas.Bool.Decides.{Decides-eqb}
-use Rattle.eco_ids.specs.declared.entity.Entity.{Entity}
-use Rattle.eco_ids.specs.declared.pattern.Part.TheVariants.{Is, Any}
-use Rattle.eco_ids.specs.declared.pattern.Pattern.{Pattern}
 use Rattle.eco_ids.specs.declared.pattern.Pattern.TheVariants.{One, Two}
 use Rattle.eco_ids.proofs.Facts.{or_parts, or_right}
-use Rattle.eco_index.specs.declared.id_index.key.Key.{Key}
-use Rattle.eco_index.specs.declared.id_index.slots.Slots.{Slots}
-use Rattle.eco_index.specs.IdIndex.{is_empty, has_slot, key_of, lists_of, same_key, slots_of, KeepsNoEmpty}
 use Rattle.eco_index.specs.Naming.{ListsSome, keeps_name}
 use Rattle.eco_index.specs.TypeTests.{naming}
 use Rattle.eco_index.proofs.Keys.{or_false}

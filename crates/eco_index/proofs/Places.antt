@@ -1,20 +1,13 @@
 -- What the index of a key's entry says of the slots that the key has.
-use Rattle.std.proofs.Common.{◌≡◌, ℕ, cond, get_or, position, slice_get, Option, None, Some, IfNone, IfSome, refl, sym, ap, subst, unwrap_or, ◌∙◌}
-use Rattle.std.proofs.Common.{Result, Ok, Err, OnOk, OnErr, true, false, true≢false}
+use Rattle.eco_index.proofs.Common.{◌≡◌, ℕ, cond, get_or, position, slice_get, Option, None, Some, IfNone, IfSome, refl, sym, ap, subst, unwrap_or}
+use Rattle.eco_index.proofs.Common.{◌∙◌, Result, Ok, Err, OnOk, OnErr, true, false, true≢false, lookup, HashMap, IsUnchanged, IsUnique, Updates, get}
+use Rattle.eco_index.proofs.Common.{keys, get_or_from_slice_get, slice_get-map, with_value_at, Key, Marks, Slots, KeepsNoEmpty, is_empty, same_key, AreMarked}
+use Rattle.eco_index.proofs.Common.{KeepsMarks, may_be_kept}
 use Rattle.std.specs.Option.{option_map}
-use Rattle.std.specs.Map.{lookup}
-use Rattle.std.specs.HashMap.{HashMap, IsUnchanged, IsUnique, Updates, get, keys}
 use Rattle.std.proofs.lemmas.List.Quantifiers.{position-Some}
-use Rattle.std.proofs.lemmas.Option.{get_or_from_slice_get, slice_get-map}
-use Rattle.indexmap.specs.IndexMap.{with_value_at}
 use Rattle.indexmap.proofs.CallerLemmas.{updates-with_value_at}
-use Rattle.eco_index.specs.declared.id_index.key.Key.{Key}
-use Rattle.eco_index.specs.declared.id_index.marks.Marks.{Marks}
-use Rattle.eco_index.specs.declared.id_index.slots.Slots.{Slots}
-use Rattle.eco_index.specs.contracts.id_index.key.KeyEq.TheImpl.Laws as key_laws
-use Rattle.eco_index.specs.IdIndex.{KeepsNoEmpty, is_empty, same_key}
-use Rattle.eco_index.specs.Marks.{AreMarked, KeepsMarks, may_be_kept}
 use Rattle.eco_index.proofs.Keys.{keys_same, more_marks, none_empty, still_marked}
+use Rattle.eco_index.specs.contracts.id_index.key.KeyEq.TheImpl.Laws as key_laws
 
 -- the key at the index where a key was looked up is that key
 pub key_at : {S : Type 0} (m : HashMap Key Slots S) (k own : Key) (place : ℕ) (o : Slots) → position (same_key k) (keys m) ≡ Some place

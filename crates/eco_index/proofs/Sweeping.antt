@@ -1,31 +1,18 @@
 -- What is left of what leads to slots where many of these lost their tables.
-use Rattle.std.proofs.Common.{◌≡◌, ℕ, ◌<◌, ◌≤◌, ◌&&◌, ◌||◌, Bool, true, false, not, cond, List, [], ◌∷◌, length, nat_eq, true≢false}
-use Rattle.std.proofs.Common.{rules, Option, Some, None, refl, sym, ap, subst, ◌∙◌, arith, inl, inr}
-use Rattle.std.specs.Prelude.{nat_lt, filter}
+use Rattle.eco_index.proofs.Common.{◌≡◌, ℕ, ◌<◌, ◌≤◌, ◌&&◌, ◌||◌, Bool, true, false, not, cond, List, [], ◌∷◌, length, nat_eq}
+use Rattle.eco_index.proofs.Common.{true≢false, rules, Option, Some, None, refl, sym, ap, subst, ◌∙◌, arith, inl, inr, nat_lt, filter, IsEquivalence}
+use Rattle.eco_index.proofs.Common.{HashMap, IsDistinct, list_any, lookup, cases_lt, Decides-eqb, slice_get_past, entity_eq-Decides, Entity, Id, Key, Single}
+use Rattle.eco_index.proofs.Common.{Pair, Relationship, Target, AnyPair, Slots, edge, edge_of, IsTwofold, same_key, slots_of, has_slot, is_empty}
 use Rattle.std.specs.Bool.{Decides}
-use Rattle.std.specs.Cmp.{IsEquivalence}
-use Rattle.std.specs.HashMap.{HashMap}
-use Rattle.std.specs.List.{IsDistinct, list_any}
-use Rattle.std.specs.Map.{lookup, keys_of}
+use Rattle.std.specs.Map.{keys_of}
 use Rattle.std.specs.Map.Calls.{RetainsPairs}
 use Rattle.std.proofs.lemmas.Map.{NonePasses}
 use Rattle.std.proofs.lemmas.Map.Entries.{lookup-filter-values, option_filter, none_past_head}
 use Rattle.std.proofs.lemmas.Map.Keys.{IsDistinct-tail}
 use Rattle.std.proofs.lemmas.Map.Views.{any-filter_same}
-use Rattle.std.proofs.lemmas.Bool.{cases_lt}
-use Rattle.std.proofs.lemmas.Bool.Decides.{Decides-eqb}
-use Rattle.std.proofs.lemmas.Option.{slice_get_past}
-use Rattle.eco_ids.proofs.SameIds.{entity_eq-Decides}
-use Rattle.eco_ids.specs.contracts.entity.EntityPartialEq.TheImpl as entity_impl
-use Rattle.eco_ids.specs.declared.entity.Entity.{Entity}
-use Rattle.eco_ids.specs.declared.id.Id.{Id}
-use Rattle.eco_index.specs.declared.id_index.key.Key.{Key}
-use Rattle.eco_index.specs.declared.id_index.key.Key.TheVariants.{Single, Pair, Relationship, Target, AnyPair}
-use Rattle.eco_index.specs.declared.id_index.slots.Slots.{Slots}
-use Rattle.eco_index.specs.Edges.{edge, edge_of, IsTwofold}
-use Rattle.eco_index.specs.IdIndex.{same_key, slots_of, has_slot, is_empty}
 use Rattle.eco_index.specs.Sweeping.{kept_if, KeepsEdges}
 use Rattle.eco_index.proofs.Keys.{keys_same, or_false}
+use Rattle.eco_ids.specs.contracts.entity.EntityPartialEq.TheImpl as entity_impl
 
 -- ---- maps whose values are slots
 

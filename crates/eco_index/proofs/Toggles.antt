@@ -1,13 +1,9 @@
 -- An id that comes and goes again leaves the type as it was.
-use Rattle.std.proofs.Common.{◌≡◌, ◌≢◌, ◌↔◌, true≢false, ◌&&◌, ◌||◌, not, Bool, true, false, cond, List, IsTrue, refl, sym, ap, ◌∙◌}
-use Rattle.eco_ids.specs.declared.id.Id.{Id}
-use Rattle.eco_ids.specs.Order.{id_cmp, id_eq, has_item, with_item, without_item, is_ascending, ItemsJoin, ItemsLeave}
-use Rattle.eco_ids.specs.OrderLaws.{id_ties}
-use Rattle.eco_index.specs.Edges.{toggled}
-use Rattle.eco_ids.proofs.Ascending.{ascending_with, ascending_without}
+use Rattle.eco_index.proofs.Common.{◌≡◌, ◌≢◌, ◌↔◌, true≢false, ◌&&◌, ◌||◌, not, Bool, true, false, cond, List, IsTrue, refl, sym}
+use Rattle.eco_index.proofs.Common.{ap, ◌∙◌, Id, id_cmp, id_eq, has_item, with_item, without_item, is_ascending, ItemsJoin, ItemsLeave, id_ties, toggled}
+use Rattle.eco_index.proofs.Common.{ascending_with, ascending_without, id_eq-Decides}
 use Rattle.eco_ids.proofs.IdOrder.{id_cmp_total, same_id}
 use Rattle.eco_ids.proofs.Members.{same_members}
-use Rattle.eco_ids.proofs.SameIds.{id_eq-Decides}
 use Rattle.eco_ids.proofs.SetLaws.{joins_with, leaves_without}
 use Rattle.eco_index.proofs.EdgeLists.{way}
 

@@ -1,19 +1,12 @@
 -- The map from types to slots after a table was put in or taken out.
-use Rattle.std.proofs.Common.{◌≡◌, ◌≢◌, ℕ, ◌==◌, Bool, true, false, cond, List, Option, Some, None, IsSome, IsTrue, is_some, refl, ap, ◌∙◌, sym, true≢false}
-use Rattle.std.proofs.Common.{IfSome, option_map, slice_get}
-use Rattle.std.specs.Cmp.{IsEquivalence}
+use Rattle.eco_index.proofs.Common.{◌≡◌, ◌≢◌, ℕ, ◌==◌, Bool, true, false, cond, List, Option, Some, None, IsSome, IsTrue, is_some, refl, ap}
+use Rattle.eco_index.proofs.Common.{◌∙◌, sym, true≢false, IfSome, option_map, slice_get, IsEquivalence, HashMap, IsUnique, Updates, get, values}
+use Rattle.eco_index.proofs.Common.{slice_get-map, Decides-eqb, Id, id_cmp, has_item, with_item, LeadAlike, LeadsAlone, same_ids, IsTypeMap, same_ids-Decides}
 use Rattle.std.specs.Cmp.Lexicographic.{lists_equiv}
-use Rattle.std.specs.HashMap.{HashMap, IsUnique, Updates, get, values}
 use Rattle.std.proofs.lemmas.Map.Entries.{hash_map_get_place}
-use Rattle.std.proofs.lemmas.Option.{slice_get-map}
-use Rattle.eco_ids.specs.contracts.id.IdEq.TheImpl.Laws as id_laws
-use Rattle.std.proofs.lemmas.Bool.Decides.{Decides-eqb}
-use Rattle.eco_ids.specs.declared.id.Id.{Id}
-use Rattle.eco_ids.specs.Order.{id_cmp, has_item, with_item}
-use Rattle.eco_index.specs.TypeMap.{LeadAlike, LeadsAlone, same_ids, IsTypeMap}
 use Rattle.eco_index.proofs.EdgeLists.{way}
 use Rattle.eco_index.proofs.Toggles.{grown_other}
-use Rattle.eco_ids.proofs.SameIds.{same_ids-Decides}
+use Rattle.eco_ids.specs.contracts.id.IdEq.TheImpl.Laws as id_laws
 
 not_same : (t q : List Id) → same_ids t q ≡ false → t ≢ q
 not_same t q e h = let same : same_ids t q ≡ true = (same_ids-Decides t q).1 h in cc

@@ -1,20 +1,12 @@
 -- The forms of a test of types.
-use Rattle.std.proofs.Common.{◌≡◌, ℕ, zero, suc, ◌<◌, Bool, true, false, ◌||◌, List, [], ◌∷◌, length}
-use Rattle.std.proofs.Common.{get_or, refl, sym, ap, ◌∙◌, arith}
-use Rattle.std.specs.List.{list_any}
-use Rattle.eco_ids.specs.declared.entity.Entity.{Entity}
-use Rattle.eco_ids.specs.declared.id.Id.{Id}
-use Rattle.eco_ids.specs.declared.id.Id.TheVariants as id
-use Rattle.eco_ids.specs.declared.pattern.Part.TheVariants.{Is, Any}
-use Rattle.eco_ids.specs.declared.pattern.Pattern.{Pattern}
+use Rattle.eco_index.proofs.Common.{◌≡◌, ℕ, zero, suc, ◌<◌, Bool, true, false, ◌||◌, List, [], ◌∷◌, length, get_or, refl, sym, ap}
+use Rattle.eco_index.proofs.Common.{◌∙◌, arith, list_any, Entity, Id, Is, Any, Pattern, entity_eq, names_entity, first, second, any_matches}
 use Rattle.eco_ids.specs.declared.pattern.Pattern.TheVariants.{One, Two}
 use Rattle.eco_ids.specs.Matching.{pattern_matches}
-use Rattle.eco_ids.specs.Order.{entity_eq, names_entity}
-use Rattle.eco_ids.proofs.Ascending.{first, second}
 use Rattle.eco_ids.proofs.Overlaps.{entity_eq_itself, entity_eq_is}
 use Rattle.eco_index.specs.TypeTests.{type_names, AreNeeded, each_alone, group_at, matches_each, type_matches_one, naming}
-use Rattle.eco_index.specs.IdIndex.{any_matches}
 use Rattle.eco_index.proofs.Keys.{and_true, or_false}
+use Rattle.eco_ids.specs.declared.id.Id.TheVariants as id
 
 pub same_truth : (a b : Bool) → (a ≡ true → b ≡ true) → (b ≡ true → a ≡ true) → a ≡ b
 same_truth true b f g = sym (f refl)

@@ -1,6 +1,5 @@
 -- Two tests in one.
-use Rattle.std.specs.Prelude.{◌≡◌, Bool, true, false, ◌&&◌}
-use Rattle.eco_ids.proofs.Common.{refl}
+use Rattle.eco_query.proofs.Common.{◌≡◌, Bool, true, false, ◌&&◌, refl}
 
 pub and_left : (a b : Bool) → (a && b) ≡ true → a ≡ true
 and_left true b e = refl

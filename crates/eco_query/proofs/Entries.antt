@@ -1,18 +1,15 @@
 -- Where a slot has an entry.
-use Rattle.eco_ids.proofs.Common.{◌≡◌, Bool, true, false, ◌&&◌, ◌||◌, List, [], ◌∷◌, map, is_some, Some, None, filter, Option, option_to_list, refl, ap, ◌∙◌}
-use Rattle.eco_ids.proofs.Common.{arith, tied_itself, IsTotalOrder, list_any, common_steps, is_least_match, same_filling, pattern_matches, id_cmp}
-use Rattle.eco_ids.proofs.Common.{has_item}
+use Rattle.eco_query.proofs.Common.{◌≡◌, Bool, true, false, ◌&&◌, ◌||◌, List, [], ◌∷◌, map, is_some, Some, None, filter, Option}
+use Rattle.eco_query.proofs.Common.{option_to_list, refl, ap, ◌∙◌, arith, tied_itself, IsTotalOrder, list_any, common_steps, is_least_match, same_filling}
+use Rattle.eco_query.proofs.Common.{pattern_matches, id_cmp, has_item, Pattern, find, has_any, holds}
 use Rattle.eco_ids.specs.declared.id.Id.{Id}
-use Rattle.eco_ids.specs.declared.pattern.Pattern.{Pattern}
-use Rattle.std.proofs.Common.{find}
 use Rattle.std.specs.Cmp.{both_ways}
 use Rattle.std.specs.Ordering.{is_lt}
 use Rattle.std.specs.declared.cmp.Ordering.{Ordering}
 use Rattle.std.specs.declared.cmp.Ordering.TheVariants.{Less, Equal, Greater}
-use Rattle.eco_ids.specs.Terms as terms
-use Rattle.eco_query.specs.Queries.{has_any, holds}
 use Rattle.eco_query.proofs.Booleans.{and_left, and_right, and_both}
 use Rattle.eco_query.proofs.Matched.{is_some_find}
+use Rattle.eco_ids.specs.Terms as terms
 
 or_right : (a b : Bool) → b ≡ true → (a || b) ≡ true
 or_right true b e = refl

@@ -1,3 +1,4 @@
+pub mod Common
 pub mod Booleans
 pub mod Entries
 pub mod Matched

@@ -1,8 +1,6 @@
 -- Lists that are searched, mapped and joined.
-use Rattle.eco_ids.proofs.Common.{◌≡◌, ℕ, Bool, true, false, ◌&&◌, ◌||◌, List, [], ◌∷◌, ◌++◌, map, is_some, if◌then◌else◌, Some, flat_map, refl, ap}
-use Rattle.eco_ids.proofs.Common.{list_all, list_any}
-use Rattle.std.proofs.Common.{find}
-use Rattle.eco_query.specs.Canonical.{joined_by}
+use Rattle.eco_query.proofs.Common.{◌≡◌, ℕ, Bool, true, false, ◌&&◌, ◌||◌, List, [], ◌∷◌, ◌++◌, map, is_some, if◌then◌else◌}
+use Rattle.eco_query.proofs.Common.{Some, flat_map, refl, ap, list_all, list_any, find, joined_by}
 
 pub is_some_find : {X : Type 0} (p : X → Bool) (xs : List X) → is_some (find p xs) ≡ list_any p xs
 is_some_find p [] = refl

@@ -1,23 +1,20 @@
 -- `==` of slots says whether they ask the same.
-use Rattle.eco_ids.proofs.Common.{◌≡◌, List, [], ◌∷◌, map, refl, ap, arith, common_steps, pointwise}
+use Rattle.eco_query.proofs.Common.{◌≡◌, List, [], ◌∷◌, map, refl, ap, arith, common_steps, pointwise, Pattern, Slot, slot_view, term_view}
 use Rattle.eco_ids.proofs.SameIds.{entity_eq-Decides, id_eq-Decides, same_ids-Decides}
 use Rattle.std.specs.Bool.{Decides}
 use Rattle.std.proofs.lemmas.Bool.Decides.{Decides-and, Decides-like}
-use Rattle.eco_ids.specs.contracts.pattern.PartPartialEq.TheImpl as part_eq
-use Rattle.eco_ids.specs.contracts.pattern.PatternPartialEq.TheImpl as pattern_eq
 use Rattle.eco_ids.specs.declared.pattern.Part.{Part}
 use Rattle.eco_ids.specs.declared.pattern.Part.TheVariants.{Is, Each, Any}
-use Rattle.eco_ids.specs.declared.pattern.Pattern.{Pattern}
+use Rattle.eco_query.specs.declared.access.Access.{Access}
+use Rattle.eco_query.specs.declared.term.Term.{Term}
+use Rattle.eco_query.specs.declared.term.Term.TheVariants.{And, Not, Optional, Or}
+use Rattle.eco_ids.specs.contracts.pattern.PartPartialEq.TheImpl as part_eq
+use Rattle.eco_ids.specs.contracts.pattern.PatternPartialEq.TheImpl as pattern_eq
 use Rattle.eco_ids.specs.declared.pattern.Pattern.TheVariants as pattern
 use Rattle.eco_ids.specs.Terms as terms
 use Rattle.eco_query.specs.contracts.access.AccessPartialEq.TheImpl as access_eq
 use Rattle.eco_query.specs.contracts.slot.SlotPartialEq.TheImpl as slot_eq
 use Rattle.eco_query.specs.contracts.term.TermPartialEq.TheImpl as term_eq
-use Rattle.eco_query.specs.declared.access.Access.{Access}
-use Rattle.eco_query.specs.declared.slot.Slot.{Slot}
-use Rattle.eco_query.specs.declared.term.Term.{Term}
-use Rattle.eco_query.specs.declared.term.Term.TheVariants.{And, Not, Optional, Or}
-use Rattle.eco_query.specs.Queries.{slot_view, term_view}
 
 part_eq-Decides : (a b : Part) → Decides ((part_eq.eq-value).it a b) (a ≡ b)
 part_eq-Decides (Is a) (Is b) = (λ e. ap (λ x. Is x) ((entity_eq-Decides a b).0 e), λ e. (entity_eq-Decides a b).1 (let same : a ≡ b = cc in same))

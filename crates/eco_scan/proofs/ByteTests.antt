@@ -1,11 +1,8 @@
 -- The tests of bytes, names and digits.
-use Rattle.eco_ids.proofs.Common.{◌≡◌, ℕ, ◌+◌, ◌-◌, ◌*◌, ◌^◌, ◌<◌, ◌≤◌, Bool, true, false, not, List, [], ◌∷◌, ◌++◌, length, IfSome}
-use Rattle.eco_ids.proofs.Common.{if◌then◌else◌, decimal, Option, refl, ap, ◌∙◌, arith, le-leb, leb-true, list_all, nat_tests, common_steps}
-use Rattle.eco_ids.proofs.Common.{is_eq-slice_cmp, may_follow, is_name, is_text, may_begin}
-use Rattle.std.proofs.lemmas.Fmt.{decimal_digit, decimal_step}
-use Rattle.std.proofs.lemmas.Bool.{and_from, and_parts, not-true}
-use Rattle.eco_scan.specs.Tokens.{is_white, is_digit}
-use Rattle.eco_scan.specs.Reader.Machine.{is_lone}
+use Rattle.eco_scan.proofs.Common.{◌≡◌, ℕ, ◌+◌, ◌-◌, ◌*◌, ◌^◌, ◌<◌, ◌≤◌, Bool, true, false, not, List, [], ◌∷◌}
+use Rattle.eco_scan.proofs.Common.{◌++◌, length, IfSome, if◌then◌else◌, decimal, Option, refl, ap, ◌∙◌, arith, le-leb, leb-true, list_all}
+use Rattle.eco_scan.proofs.Common.{nat_tests, common_steps, is_eq-slice_cmp, may_follow, is_name, is_text, may_begin, decimal_digit, decimal_step, and_from}
+use Rattle.eco_scan.proofs.Common.{and_parts, not-true, is_white, is_digit, is_lone}
 
 -- ---- tests
 

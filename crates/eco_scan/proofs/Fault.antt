@@ -1,10 +1,7 @@
 -- Where the machine stops, the longest beginning of a sentence ends.
-use Rattle.eco_ids.proofs.Common.{◌≡◌, ℕ, ◌+◌, ◌<◌, List, [], ◌++◌, length, get_or, take, Some, None, Option, option_map, sym, ap, ◌∙◌, subst, inl, inr}
-use Rattle.eco_ids.proofs.Common.{append-nil, arith, length-append, rules, take-length, common_steps, length-take-le, get_or-take}
-use Rattle.std.proofs.lemmas.List.{take-take}
-use Rattle.eco_scan.specs.Faults.{IsFault}
-use Rattle.eco_scan.specs.Grammar.{WrittenSlot}
-use Rattle.eco_scan.specs.Reader.Machine.{Point, end, advance, runs, Stops}
+use Rattle.eco_scan.proofs.Common.{◌≡◌, ℕ, ◌+◌, ◌<◌, List, [], ◌++◌, length, get_or, take, Some, None, Option, option_map, sym, ap}
+use Rattle.eco_scan.proofs.Common.{◌∙◌, subst, inl, inr, append-nil, arith, length-append, rules, take-length, common_steps, length-take-le, get_or-take}
+use Rattle.eco_scan.proofs.Common.{take-take, IsFault, WrittenSlot, Point, end, advance, runs, Stops}
 use Rattle.eco_scan.proofs.Stuck.{stuck_at}
 use Rattle.eco_scan.proofs.Rest.{Rest}
 use Rattle.eco_scan.proofs.Runs.{run_in, run_out, end_in}

@@ -1,7 +1,6 @@
 -- std's `starts_with` on bytes.
-use Rattle.eco_ids.proofs.Common.{◌≡◌, ℕ, List, [], ◌∷◌, ◌==◌, refl, arith, common_steps}
+use Rattle.eco_scan.proofs.Common.{◌≡◌, ℕ, List, [], ◌∷◌, ◌==◌, refl, arith, common_steps, is_prefix}
 use Rattle.std.specs.List.{starts_with}
-use Rattle.eco_scan.specs.Reader.Machine.{is_prefix}
 
 pub starts_prefix : (w k : List ℕ) → starts_with (λ x y. x == y) w k ≡ is_prefix k w
 starts_prefix [] [] = refl

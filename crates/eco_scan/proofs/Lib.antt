@@ -1,3 +1,4 @@
+pub mod Common
 pub mod ByteTests
 pub mod Fault
 pub mod Fronts

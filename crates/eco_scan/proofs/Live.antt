@@ -1,18 +1,12 @@
 -- From any point that the machine comes to some sentence goes on.
-use Rattle.eco_ids.proofs.Common.{◌≡◌, ℕ, ◌+◌, Bool, true, false, not, ◌&&◌, List, [], ◌∷◌, ◌++◌, length, IfSome, if◌then◌else◌, ◌==◌, Some, None}
-use Rattle.eco_ids.proofs.Common.{codes, Option, option_map, option_and_then, sym, refl, ap, subst, append-nil, arith, length-append, Decides-eqb}
-use Rattle.eco_ids.proofs.Common.{common_steps, bytes_eq-Decides, may_begin}
-use Rattle.eco_scan.specs.Tokens.{Reference, name, handle, is_white, is_digit}
-use Rattle.eco_scan.specs.Reader.Machine.{is_lone, Before, Role, whole, first, second, sole, takes_wildcard, Spot, slot, word, shut, body, atom, part, behind}
-use Rattle.eco_scan.specs.Reader.Machine.{after, Point, at, letters, bar, name_of, hash, index, dot, generation, slots_with, others_with, begun, part_of_word}
-use Rattle.eco_scan.specs.Reader.Machine.{is_prefix, is_front, part_or, atom_or, body_or, behind_atom, enter, move_at, move, advance, runs}
-use Rattle.eco_scan.specs.Grammar.{WrittenPart, named, each, WrittenAtom, single, pair, WrittenSlot, access_word}
-use Rattle.eco_query.specs.declared.access.Access.{Access}
-use Rattle.eco_query.specs.declared.access.Access.TheVariants.{InOut}
-use Rattle.eco_scan.specs.declared.point.Head.{Head}
-use Rattle.eco_scan.specs.declared.point.Head.TheVariants.{Plain, Not, Optional, Alone}
+use Rattle.eco_scan.proofs.Common.{◌≡◌, ℕ, ◌+◌, Bool, true, false, not, ◌&&◌, List, [], ◌∷◌, ◌++◌, length, IfSome}
+use Rattle.eco_scan.proofs.Common.{if◌then◌else◌, ◌==◌, Some, None, codes, Option, option_map, option_and_then, sym, refl, ap, subst, append-nil}
+use Rattle.eco_scan.proofs.Common.{arith, length-append, Decides-eqb, common_steps, bytes_eq-Decides, may_begin, Reference, name, handle, is_white, is_digit}
+use Rattle.eco_scan.proofs.Common.{is_lone, Before, Role, whole, first, second, sole, takes_wildcard, Spot, slot, word, shut, body, atom, part, behind, after}
+use Rattle.eco_scan.proofs.Common.{Point, at, letters, bar, name_of, hash, index, dot, generation, slots_with, others_with, begun, part_of_word, is_prefix}
+use Rattle.eco_scan.proofs.Common.{is_front, part_or, atom_or, body_or, behind_atom, enter, move_at, move, advance, runs, WrittenPart, named, each, WrittenAtom}
+use Rattle.eco_scan.proofs.Common.{single, pair, WrittenSlot, access_word, Access, InOut, Head, Plain, Not, Optional, Alone, and_parts, not-false, or_cases}
 use Rattle.eco_scan.proofs.ByteTests.{if_some_cond}
-use Rattle.std.proofs.lemmas.Bool.{and_parts, not-false, or_cases}
 use Rattle.eco_scan.proofs.Tokens.{Sat}
 use Rattle.eco_scan.proofs.Rest.{IsNamed, After, Follow, Rest, move_out}
 

@@ -1,8 +1,7 @@
 -- The loop of the reader: what the machine has read so far.
-use Rattle.eco_ids.proofs.Common.{◌≡◌, ℕ, ◌+◌, ◌<◌, List, length, get_or, take, Some, None, option_map, option_and_then, sym, refl, ap, ◌∙◌, inl, inr}
-use Rattle.eco_ids.proofs.Common.{take-length, take_more}
-use Rattle.eco_scan.specs.Grammar.{WrittenAtom}
-use Rattle.eco_scan.specs.Reader.Machine.{Point, Before, move, end, advance, runs, slots_with, Reached, Stops, EndsWith}
+use Rattle.eco_scan.proofs.Common.{◌≡◌, ℕ, ◌+◌, ◌<◌, List, length, get_or, take, Some, None, option_map, option_and_then, sym, refl, ap}
+use Rattle.eco_scan.proofs.Common.{◌∙◌, inl, inr, take-length, take_more, WrittenAtom, Point, Before, move, end, advance, runs, slots_with, Reached}
+use Rattle.eco_scan.proofs.Common.{Stops, EndsWith}
 use Rattle.eco_scan.proofs.Stuck.{runs-more}
 
 pub reached_more : (start : Point) (text : List ℕ) (n : ℕ) (q r : Point) → n < length text → Reached start text n q → Some r ≡ move n q (get_or text n 0)

@@ -1,9 +1,7 @@
 -- Each text spells something or has a first fault: a machine runs through it, or stops there.
-use Rattle.eco_ids.proofs.Common.{◌≡◌, ℕ, suc, ◌+◌, ◌<◌, ◌⊎◌, List, [], ◌∷◌, length, get_or, take, Some, None, option_map, option_and_then, refl}
-use Rattle.eco_ids.proofs.Common.{ap, ◌∙◌, subst, inl, inr, arith, take-length}
-use Rattle.eco_scan.specs.Grammar.{WrittenSlot, SpellsId, SpellsQuery, SpellsRef}
-use Rattle.eco_scan.specs.Reader.Machine.{Point, advance, runs, move, end, Stops, id_start, query_start, ref_start}
-use Rattle.eco_scan.specs.Faults.{SpellsOrFails}
+use Rattle.eco_scan.proofs.Common.{◌≡◌, ℕ, suc, ◌+◌, ◌<◌, ◌⊎◌, List, [], ◌∷◌, length, get_or, take, Some, None, option_map}
+use Rattle.eco_scan.proofs.Common.{option_and_then, refl, ap, ◌∙◌, subst, inl, inr, arith, take-length, WrittenSlot, SpellsId, SpellsQuery, SpellsRef}
+use Rattle.eco_scan.proofs.Common.{Point, advance, runs, move, end, Stops, id_start, query_start, ref_start, SpellsOrFails}
 use Rattle.eco_scan.proofs.Rest.{Rest}
 use Rattle.eco_scan.proofs.Runs.{read_out}
 use Rattle.eco_scan.proofs.Spelled.{start_out, id_out, id_fault, query_fault, ref_out, ref_fault}

@@ -1,24 +1,17 @@
 -- What is left of a text at each point of the machine, and that the machine goes on exactly there.
-use Rattle.eco_ids.proofs.Common.{◌≡◌, ℕ, ◌+◌, ◌-◌, ◌^◌, ◌<◌, ◌≤◌, true, false, not, ◌&&◌, ◌⊎◌, List, [], ◌∷◌, ◌++◌, length, if◌then◌else◌, nat_lt, ◌==◌, Some}
-use Rattle.eco_ids.proofs.Common.{None, codes, decimal, Option, option_and_then, sym, refl, ap, ◌∙◌, subst, inl, inr, append_assoc, append-nil, arith}
-use Rattle.eco_ids.proofs.Common.{length-append, ltb-true, lt-ltb, list_all, cond-false, common_steps, bytes_eq-Decides, may_follow, may_begin}
+use Rattle.eco_scan.proofs.Common.{◌≡◌, ℕ, ◌+◌, ◌-◌, ◌^◌, ◌<◌, ◌≤◌, true, false, not, ◌&&◌, ◌⊎◌, List, [], ◌∷◌}
+use Rattle.eco_scan.proofs.Common.{◌++◌, length, if◌then◌else◌, nat_lt, ◌==◌, Some, None, codes, decimal, Option, option_and_then, sym, refl, ap}
+use Rattle.eco_scan.proofs.Common.{◌∙◌, subst, inl, inr, append_assoc, append-nil, arith, length-append, ltb-true, lt-ltb, list_all, cond-false}
+use Rattle.eco_scan.proofs.Common.{common_steps, bytes_eq-Decides, may_follow, may_begin, and_from, and_parts, name, handle, is_white, is_digit, with_digit}
+use Rattle.eco_scan.proofs.Common.{is_lone, Before, Role, whole, first, second, sole, takes_wildcard, Spot, slot, word, shut, body, atom, part, behind, after}
+use Rattle.eco_scan.proofs.Common.{Point, at, letters, bar, name_of, hash, index, dot, generation, slots_with, others_with, begun, part_of_word, is_front}
+use Rattle.eco_scan.proofs.Common.{access_of, part_or, atom_or, body_or, comma, behind_atom, enter, move_at, move, WrittenPart, named, each, any, WrittenAtom}
+use Rattle.eco_scan.proofs.Common.{single, pair, WrittenBody, absent, optional, alternatives, WrittenSlot, IsTok, IsPart, IsAtom, AreMore, IsBody, access_word}
+use Rattle.eco_scan.proofs.Common.{IsSlot, AreMoreSlots, Access, In, Out, InOut, InOutNone, Head, Plain, Not, Optional, Alone, body_of}
 use Rattle.eco_scan.proofs.ByteTests.{name_parts, name_of_parts}
-use Rattle.std.proofs.lemmas.Bool.{and_from, and_parts}
-use Rattle.eco_scan.specs.Tokens.{name, handle, is_white, is_digit}
-use Rattle.eco_scan.specs.Reader.Machine.{with_digit, is_lone, Before, Role, whole, first, second, sole, takes_wildcard, Spot, slot, word, shut, body, atom}
-use Rattle.eco_scan.specs.Reader.Machine.{part}
-use Rattle.eco_scan.specs.Reader.Machine.{behind, after, Point, at, letters, bar, name_of, hash, index, dot, generation, slots_with, others_with}
-use Rattle.eco_scan.specs.Reader.Machine.{begun, part_of_word, is_front, access_of, part_or, atom_or, body_or, comma, behind_atom, enter, move_at, move}
-use Rattle.eco_scan.specs.Grammar.{WrittenPart, named, each, any, WrittenAtom, single, pair, WrittenBody, absent, optional, alternatives, WrittenSlot, IsTok}
-use Rattle.eco_scan.specs.Grammar.{IsPart, IsAtom, AreMore, IsBody, access_word, IsSlot, AreMoreSlots}
-use Rattle.eco_query.specs.declared.access.Access.{Access}
-use Rattle.eco_query.specs.declared.access.Access.TheVariants.{In, Out, InOut, InOutNone}
-use Rattle.eco_scan.specs.declared.point.Head.{Head}
-use Rattle.eco_scan.specs.declared.point.Head.TheVariants.{Plain, Not, Optional, Alone}
 use Rattle.eco_scan.proofs.Tokens.{Sat, sat_if, if_sat, else_sat, same_byte, tok_cons, tok_uncons, enter_white, word_stops, digit_word, none_sat, four}
 use Rattle.eco_scan.proofs.Tokens.{word_ends, front_of, access_of_word, word_of_access, then_out, some_out, digits, digits_in, digits_out, number_front}
 use Rattle.eco_scan.proofs.Tokens.{number_back}
-use Rattle.eco_scan.specs.Marks.{body_of}
 
 -- a reference is a name or a handle
 abbrev pub IsNamed : WrittenPart → Type 0

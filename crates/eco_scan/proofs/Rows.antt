@@ -1,10 +1,7 @@
 -- Rows of the grammar that compute.
-use Rattle.eco_ids.proofs.Common.{◌≡◌, ℕ, List, [], ◌∷◌, Some, codes, Option, option_and_then, refl, inl, inr, arith}
-use Rattle.eco_scan.specs.Tokens.{name}
-use Rattle.eco_scan.specs.Faults.{IsSpelled, IsFault}
-use Rattle.eco_scan.specs.Grammar.{named, each, any, single, pair, absent, alternatives, WrittenSlot, SpellsQuery}
-use Rattle.eco_query.specs.declared.access.Access.TheVariants.{In, InOut}
-use Rattle.eco_scan.specs.Reader.Machine.{Point, end, advance, runs, query_start}
+use Rattle.eco_scan.proofs.Common.{◌≡◌, ℕ, List, [], ◌∷◌, Some, codes, Option, option_and_then, refl, inl, inr, arith, name, IsSpelled, IsFault}
+use Rattle.eco_scan.proofs.Common.{named, each, any, single, pair, absent, alternatives, WrittenSlot, SpellsQuery, In, InOut, Point, end, advance, runs}
+use Rattle.eco_scan.proofs.Common.{query_start}
 use Rattle.eco_scan.proofs.Spelled.{query_fault}
 
 row_inn : IsFault (IsSpelled SpellsQuery) (codes "[inn] P") 3

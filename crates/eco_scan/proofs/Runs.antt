@@ -1,14 +1,10 @@
 -- The machine over a whole text: it ends exactly with the slots that are left of the text where it begins.
-use Rattle.eco_ids.proofs.Common.{◌≡◌, ℕ, ◌+◌, List, [], ◌∷◌, ◌++◌, length, Some, None, codes, decimal, Option, option_map, option_and_then, sym, refl, ap, ◌∙◌}
-use Rattle.eco_ids.proofs.Common.{subst, inl, inr, append-nil, arith, length-append}
-use Rattle.eco_scan.specs.Tokens.{name, handle}
-use Rattle.eco_scan.specs.Grammar.{WrittenPart, named, each, any, WrittenAtom, single, WrittenSlot, IsTok, IsPart, access_word, AreMoreSlots}
-use Rattle.eco_query.specs.declared.access.Access.{Access}
-use Rattle.eco_query.specs.declared.access.Access.TheVariants.{In, Out, InOut, InOutNone}
-use Rattle.eco_scan.specs.declared.point.Head.{Head}
-use Rattle.eco_scan.specs.declared.point.Head.TheVariants.{Plain, Not, Optional, Alone}
-use Rattle.eco_scan.specs.Reader.Machine.{Before, whole, first, second, sole, Spot, slot, word, shut, body, atom, part, behind, after, Point, at, letters, bar}
-use Rattle.eco_scan.specs.Reader.Machine.{name_of, hash, index, dot, generation, slots_with, begun, part_of_word, move, end_at, end, advance, runs}
+use Rattle.eco_scan.proofs.Common.{◌≡◌, ℕ, ◌+◌, List, [], ◌∷◌, ◌++◌, length, Some, None, codes, decimal, Option, option_map}
+use Rattle.eco_scan.proofs.Common.{option_and_then, sym, refl, ap, ◌∙◌, subst, inl, inr, append-nil, arith, length-append, name, handle, WrittenPart}
+use Rattle.eco_scan.proofs.Common.{named, each, any, WrittenAtom, single, WrittenSlot, IsTok, IsPart, access_word, AreMoreSlots, Access, In, Out, InOut}
+use Rattle.eco_scan.proofs.Common.{InOutNone, Head, Plain, Not, Optional, Alone, Before, whole, first, second, sole, Spot, slot, word, shut, body, atom, part}
+use Rattle.eco_scan.proofs.Common.{behind, after, Point, at, letters, bar, name_of, hash, index, dot, generation, slots_with, begun, part_of_word, move, end_at}
+use Rattle.eco_scan.proofs.Common.{end, advance, runs}
 use Rattle.eco_scan.proofs.Tokens.{Sat, tok_nil, number_front}
 use Rattle.eco_scan.proofs.Rest.{After, Follow, AtomThen, BodyThen, Then, Rest, move_in, move_out}
 

@@ -1,8 +1,7 @@
 -- Bytes at which the machine stays between tokens, or inside of the same one.
-use Rattle.eco_ids.proofs.Common.{◌≡◌, ℕ, ◌+◌, ◌-◌, ◌<◌, ◌≤◌, true, List, length, drop, nat_lt, slice_index, slice_range, Some, refl, arith, length-drop}
-use Rattle.eco_ids.proofs.Common.{nat_tests, length-take-le, may_follow}
-use Rattle.eco_scan.specs.Tokens.{is_digit, is_white}
-use Rattle.eco_scan.specs.Reader.Machine.{Point, Role, Spot, at, dot, generation, hash, index, name_of, with_digit, Reached}
+use Rattle.eco_scan.proofs.Common.{◌≡◌, ℕ, ◌+◌, ◌-◌, ◌<◌, ◌≤◌, true, List, length, drop, nat_lt, slice_index, slice_range, Some, refl}
+use Rattle.eco_scan.proofs.Common.{arith, length-drop, nat_tests, length-take-le, may_follow, is_digit, is_white, Point, Role, Spot, at, dot, generation, hash}
+use Rattle.eco_scan.proofs.Common.{index, name_of, with_digit, Reached}
 use Rattle.eco_scan.proofs.Loops.{reached_more}
 use Rattle.eco_scan.proofs.Stuck.{slice_range_more}
 

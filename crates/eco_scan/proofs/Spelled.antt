@@ -1,17 +1,11 @@
 -- Queries, ids and references: what the reader ends with is spelled, and where it stops the fault lies.
-use Rattle.eco_ids.proofs.Common.{◌≡◌, ℕ, List, [], ◌∷◌, ◌++◌, length, Some, sym, refl, ap, ◌∙◌, subst, arith, common_steps}
-use Rattle.eco_scan.specs.Tokens.{Reference}
-use Rattle.eco_scan.specs.Grammar.{named, each, any, WrittenAtom, single, alternatives, WrittenSlot, IsPart, SpellsId, PlacedReference}
-use Rattle.eco_scan.specs.Grammar.{SpellsRef, SpellsSlots, SpellsQuery, IsAtom}
-use Rattle.eco_scan.specs.Faults.{IsSpelled, IsFault, SpellsOnce}
-use Rattle.eco_scan.specs.Reader.Machine.{Point, Before, end, advance, runs, slots_with, id_start, ref_start, begun, EndsWith, Stops, query_start}
-use Rattle.eco_query.specs.declared.access.Access.TheVariants.{InOut}
-use Rattle.eco_scan.specs.declared.point.Head.{Head}
-use Rattle.eco_scan.specs.declared.point.Head.TheVariants.{Plain, Not, Optional, Alone}
+use Rattle.eco_scan.proofs.Common.{◌≡◌, ℕ, List, [], ◌∷◌, ◌++◌, length, Some, sym, refl, ap, ◌∙◌, subst, arith, common_steps, Reference}
+use Rattle.eco_scan.proofs.Common.{named, each, any, WrittenAtom, single, alternatives, WrittenSlot, IsPart, SpellsId, PlacedReference, SpellsRef, SpellsSlots}
+use Rattle.eco_scan.proofs.Common.{SpellsQuery, IsAtom, IsSpelled, IsFault, SpellsOnce, Point, Before, end, advance, runs, slots_with, id_start, ref_start}
+use Rattle.eco_scan.proofs.Common.{begun, EndsWith, Stops, query_start, InOut, Head, Plain, Not, Optional, Alone, body_of}
 use Rattle.eco_scan.proofs.Rest.{Rest, slot_split, slot_join, atom_split, atom_join}
 use Rattle.eco_scan.proofs.Runs.{read_out, rest_once}
 use Rattle.eco_scan.proofs.Fault.{fault_at}
-use Rattle.eco_scan.specs.Marks.{body_of}
 
 -- ---- queries
 

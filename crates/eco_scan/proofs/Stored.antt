@@ -1,17 +1,11 @@
 -- The store of atoms, and the drafts that its atoms make.
-use Rattle.eco_ids.proofs.Common.{◌≡◌, ℕ, ◌+◌, ◌<◌, ◌≤◌, Bool, true, false, ◌&&◌, List, [], ◌∷◌, ◌++◌, length, take, if◌then◌else◌, slice_set, Some, None}
-use Rattle.eco_ids.proofs.Common.{Option, option_and_then, sym, refl, ap, ◌∙◌, subst, append_assoc, append-nil, arith, length-append, ltb-true, lt-ltb}
-use Rattle.eco_ids.proofs.Common.{cond-false, cond-true, nat_tests, common_steps, length-take-le}
-use Rattle.std.proofs.lemmas.List.{take_more_set}
-use Rattle.eco_scan.specs.Grammar.{WrittenAtom, WrittenSlot, atoms_of, count_atoms}
-use Rattle.eco_scan.specs.Reader.Points.{Draft, marked, keeps_slots}
-use Rattle.eco_scan.specs.Views.{atom_view}
-use Rattle.eco_scan.specs.Marks.{with_mark, put_down, body_of, slots_from, is_bare_head, grouping, some_of, HoldsSlots}
-use Rattle.eco_query.specs.declared.access.Access.{Access}
+use Rattle.eco_scan.proofs.Common.{◌≡◌, ℕ, ◌+◌, ◌<◌, ◌≤◌, Bool, true, false, ◌&&◌, List, [], ◌∷◌, ◌++◌, length, take}
+use Rattle.eco_scan.proofs.Common.{if◌then◌else◌, slice_set, Some, None, Option, option_and_then, sym, refl, ap, ◌∙◌, subst, append_assoc}
+use Rattle.eco_scan.proofs.Common.{append-nil, arith, length-append, ltb-true, lt-ltb, cond-false, cond-true, nat_tests, common_steps, length-take-le}
+use Rattle.eco_scan.proofs.Common.{take_more_set, WrittenAtom, WrittenSlot, atoms_of, count_atoms, Draft, marked, keeps_slots, atom_view, with_mark, put_down}
+use Rattle.eco_scan.proofs.Common.{body_of, slots_from, is_bare_head, grouping, some_of, HoldsSlots, Access, Head, Plain, Not, Optional, Alone}
 use Rattle.eco_scan.specs.declared.point.Mark.{Mark}
 use Rattle.eco_scan.specs.declared.point.Mark.TheVariants as marks
-use Rattle.eco_scan.specs.declared.point.Head.{Head}
-use Rattle.eco_scan.specs.declared.point.Head.TheVariants.{Plain, Not, Optional, Alone}
 
 -- ---- the store
 

@@ -1,9 +1,9 @@
 -- A machine that reads a text byte by byte, and the longest beginning of a text of its language.
-use Rattle.eco_ids.proofs.Common.{◌≡◌, ℕ, suc, ◌+◌, ◌-◌, ◌<◌, ◌≤◌, List, [], ◌∷◌, ◌++◌, length, get_or, take, drop, slice_index, slice_range, Some, None}
-use Rattle.eco_ids.proofs.Common.{Option, option_and_then, sym, refl, ap, ◌∙◌, append_assoc, arith, length-drop, take_more, take-append-drop}
+use Rattle.eco_scan.proofs.Common.{◌≡◌, ℕ, suc, ◌+◌, ◌-◌, ◌<◌, ◌≤◌, List, [], ◌∷◌, ◌++◌, length, get_or, take, drop}
+use Rattle.eco_scan.proofs.Common.{slice_index, slice_range, Some, None, Option, option_and_then, sym, refl, ap, ◌∙◌, append_assoc, arith, length-drop}
+use Rattle.eco_scan.proofs.Common.{take_more, take-append-drop, runs}
 use Rattle.std.proofs.Math.Seq.{drop-cons}
 use Rattle.std.proofs.Common.{get_or-drop}
-use Rattle.eco_scan.specs.Reader.Machine.{runs}
 
 pub runs-append : {S : Type 0} (step : S → ℕ → Option S) (s : S) (xs ys : List ℕ)
     → runs step s (xs ++ ys) ≡ option_and_then (λ q. runs step q ys) (runs step s xs)

@@ -1,18 +1,12 @@
 -- Tokens at the beginning of what is left of a text: bytes, access words and digits.
-use Rattle.eco_ids.proofs.Common.{◌≡◌, ℕ, ◌+◌, ◌-◌, ◌*◌, ◌/◌, ◌%◌, ◌^◌, ◌<◌, ◌≤◌, Bool, true, false, ◌&&◌, ◌||◌, List, [], ◌∷◌, ◌++◌, if◌then◌else◌, nat_lt}
-use Rattle.eco_ids.proofs.Common.{nat_le, ◌==◌, Some, None, codes, decimal, Option, option_and_then, sym, refl, ap, ◌∙◌, subst, append_assoc, append-nil, arith}
-use Rattle.eco_ids.proofs.Common.{ltb-true, lt-ltb, le-leb, leb-true, cond-false, cond-true, Decides-eqb, nat_tests, common_steps, bytes_eq-Decides, may_follow}
+use Rattle.eco_scan.proofs.Common.{◌≡◌, ℕ, ◌+◌, ◌-◌, ◌*◌, ◌/◌, ◌%◌, ◌^◌, ◌<◌, ◌≤◌, Bool, true, false, ◌&&◌}
+use Rattle.eco_scan.proofs.Common.{◌||◌, List, [], ◌∷◌, ◌++◌, if◌then◌else◌, nat_lt, nat_le, ◌==◌, Some, None, codes, decimal, Option}
+use Rattle.eco_scan.proofs.Common.{option_and_then, sym, refl, ap, ◌∙◌, subst, append_assoc, append-nil, arith, ltb-true, lt-ltb, le-leb, leb-true}
+use Rattle.eco_scan.proofs.Common.{cond-false, cond-true, Decides-eqb, nat_tests, common_steps, bytes_eq-Decides, may_follow, and_from, and_parts, or_left}
+use Rattle.eco_scan.proofs.Common.{or_right, decimal_by_steps, is_prefix, with_digit, Before, Role, whole, sole, Spot, behind, after, is_front, access_of}
+use Rattle.eco_scan.proofs.Common.{behind_atom, enter, move_at, is_white, is_digit, WrittenPart, WrittenAtom, single, IsTok, access_word, Access, In, Out}
+use Rattle.eco_scan.proofs.Common.{InOut, InOutNone, Head, Plain, Alone}
 use Rattle.eco_scan.proofs.ByteTests.{white_not_word, digit_is, is_digit_of, one_digit, more_digits}
-use Rattle.std.proofs.lemmas.Bool.{and_from, and_parts, or_left, or_right}
-use Rattle.std.proofs.lemmas.Fmt.{decimal_by_steps}
-use Rattle.eco_scan.specs.Reader.Machine.{is_prefix, with_digit, Before, Role, whole, sole, Spot, behind, after}
-use Rattle.eco_scan.specs.Reader.Machine.{is_front, access_of, behind_atom, enter, move_at}
-use Rattle.eco_scan.specs.Tokens.{is_white, is_digit}
-use Rattle.eco_scan.specs.Grammar.{WrittenPart, WrittenAtom, single, IsTok, access_word}
-use Rattle.eco_query.specs.declared.access.Access.{Access}
-use Rattle.eco_query.specs.declared.access.Access.TheVariants.{In, Out, InOut, InOutNone}
-use Rattle.eco_scan.specs.declared.point.Head.{Head}
-use Rattle.eco_scan.specs.declared.point.Head.TheVariants.{Plain, Alone}
 
 abbrev pub Sat : {X : Type 0} → Option X → (X → Type 0) → Type 0
 Sat None P = ⊥

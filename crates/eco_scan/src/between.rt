@@ -2,7 +2,9 @@
 ghost use Rattle.std.specs.Prelude.{◌≡◌, true, ◌+◌, ◌<◌, length, Option, IfSome, option_map, slice_index};
 ghost use Rattle.eco_scan.specs.Reader.Machine as machine;
 ghost use Rattle.eco_scan.specs.Reader.Machine.{part_or};
-ghost use Rattle.eco_scan.specs.Reader.Points.{Draft, IsBegunAt, KeepsSlots, is_bare, is_bare_role, is_bare_spot, before_view, is_beginning, marked, or_point, role_view, spot_view, point_of_step};
+ghost use Rattle.eco_scan.specs.Reader.Points.{Draft, IsBegunAt, KeepsSlots, is_bare, is_bare_role, is_bare_spot};
+ghost use Rattle.eco_scan.specs.Reader.Points.{before_view, is_beginning, marked, or_point, role_view, spot_view};
+ghost use Rattle.eco_scan.specs.Reader.Points.{point_of_step};
 ghost use Rattle.eco_scan.specs.Views.{atom_view};
 ghost use Rattle.eco_scan.specs.Marks.{is_bare_head};
 

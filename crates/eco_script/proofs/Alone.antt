@@ -1,24 +1,15 @@
 -- Scripts of one worker, whose frames run to their end.
-use Rattle.std.proofs.Common.{◌≡◌, ℕ, ◌+◌, true, false, true≢false, inl, inr, List, [], ◌∷◌, ◌++◌, length, map, refl, sym, ap, subst, ◌∙◌}
-use Rattle.std.proofs.Common.{Option, Some, None, Result, Ok, Err, IsFalse, IsTrue, MatchBool}
-use Rattle.std.proofs.lemmas.Bool.{or_parts}
-use Rattle.std.specs.List.{AllByRecursion, list_any}
-use Rattle.eco_ids.specs.declared.refusal.Refusal.{Refusal}
-use Rattle.eco_ids.specs.Outcome.{is_out_of_memory}
-use Rattle.eco_systems.specs.declared.phase.Phase.{Phase}
-use Rattle.eco_systems.specs.Frames.{FrameOutcomes}
+use Rattle.eco_script.proofs.Common.{◌≡◌, ℕ, ◌+◌, true, false, true≢false, inl, inr, List, [], ◌∷◌, ◌++◌, length, map, refl, sym, ap}
+use Rattle.eco_script.proofs.Common.{subst, ◌∙◌, Option, Some, None, Result, Ok, Err, IsFalse, IsTrue, MatchBool, or_parts, AllByRecursion, list_any}
+use Rattle.eco_script.proofs.Common.{Refusal, is_out_of_memory, Phase, FrameOutcomes, FrameDone, drawn_in, ok_map, ReadsSystem, Reply, RunsFrame, StepReplies}
+use Rattle.eco_script.proofs.Common.{done, framed, unless, with_declared, NamedSystem, ScriptState, name_refusal, script_system, TextInMemory, TextToEnd}
+use Rattle.eco_script.proofs.Common.{has_stopped, has_wanted, step_lines, HaveOneText}
 use Rattle.eco_systems.specs.Laws.{OneWorkerDecides, TakesOne, was_ample}
 use Rattle.eco_bodies.specs.Actions.{first_action_refusal}
 use Rattle.eco_bodies.specs.Laws.{ScriptsTakeOne}
-use Rattle.eco_frame.specs.Reports.{FrameDone, drawn_in}
-use Rattle.eco_grammar.specs.Readings.{ok_map}
+use Rattle.eco_script.proofs.Determined.{Laws, step_once, text_once}
 use Rattle.eco_steps.specs.Actions as texts
 use Rattle.eco_steps.specs.Steps as step
-use Rattle.eco_script.specs.Replies.{ReadsSystem, Reply, RunsFrame, StepReplies, done, framed, unless, with_declared}
-use Rattle.eco_script.specs.States.{NamedSystem, ScriptState, name_refusal, script_system}
-use Rattle.eco_script.specs.Text.{TextInMemory, TextToEnd, has_stopped, has_wanted, step_lines}
-use Rattle.eco_script.specs.Laws.{HaveOneText}
-use Rattle.eco_script.proofs.Determined.{Laws, step_once, text_once}
 
 -- ---- systems that were declared
 

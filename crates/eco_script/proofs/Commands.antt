@@ -1,9 +1,7 @@
 -- The lines of the commands of a frame, batch by batch.
-use Rattle.std.proofs.Common.{◌≡◌, ℕ, ◌+◌, ◌<◌, ◌≤◌, List, [], ◌∷◌, ◌++◌, length, take, drop, get_or, refl, sym, ap, ◌∙◌, arith, append_assoc}
-use Rattle.std.proofs.lemmas.List.{append-nil, length-append, take_more, take-append-drop}
-use Rattle.eco_systems.specs.Batches.{joined}
-use Rattle.eco_stages.specs.Outcomes.{Outcomes}
-use Rattle.eco_script.specs.Text.{command_line, command_lines}
+use Rattle.eco_script.proofs.Common.{◌≡◌, ℕ, ◌+◌, ◌<◌, ◌≤◌, List, [], ◌∷◌, ◌++◌, length, take, drop, get_or, refl, sym, ap}
+use Rattle.eco_script.proofs.Common.{◌∙◌, arith, append_assoc, append-nil, length-append, take_more, take-append-drop, joined, Outcomes, command_line}
+use Rattle.eco_script.proofs.Common.{command_lines}
 
 lines_append : (k : ℕ) (xs ys : Outcomes) → command_lines k (xs ++ ys) ≡ command_lines k xs ++ command_lines (k + length xs) ys
 lines_append k [] ys = let same : k ≡ k + 0 = omega arith in ap (λ n. command_lines n ys) same

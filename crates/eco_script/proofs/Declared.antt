@@ -1,34 +1,23 @@
 -- Systems that are declared, and frames of them.
-use Rattle.std.proofs.Common.{◌≡◌, ℕ, Bool, List, [], ◌∷◌, ◌++◌, map, Option, Some, None, Result, Ok, Err, IfOk, IfErr, IsOkAnd, MatchOption}
-use Rattle.std.proofs.Common.{IsFalse, refl, ap, subst, true≢false, ◌∙◌, ◌||◌, not, inl, string_bytes}
+use Rattle.eco_script.proofs.Common.{◌≡◌, ℕ, Bool, List, [], ◌∷◌, ◌++◌, map, Option, Some, None, Result, Ok, Err, IfOk, IfErr, IsOkAnd}
+use Rattle.eco_script.proofs.Common.{MatchOption, IsFalse, refl, ap, subst, true≢false, ◌∙◌, ◌||◌, not, inl, string_bytes, list_any, map-append}
+use Rattle.eco_script.proofs.Common.{Refusal, BadName, OutOfMemory, SystemNameTaken, is_name, is_text, is_out_of_memory, WorldState, QuerySlot, Phase, Action}
+use Rattle.eco_script.proofs.Common.{FrameDone, IsFrameBy, FrameStop, done, frame_reply, unless, DeclaresSystem, ReadsSystem, StepReplies, NamedSystem}
+use Rattle.eco_script.proofs.Common.{ScriptState, is_declared, name_refusal, script_system, model_by, named, reached, recorded_by, handles_taken, IsScriptOf}
+use Rattle.eco_script.proofs.Common.{ReadsBody}
 use Rattle.std.specs.Bool.{⊤}
-use Rattle.std.specs.List.{list_any}
-use Rattle.std.proofs.lemmas.List.{map-append}
 use Rattle.eco_ids.specs.declared.pattern.Pattern.{Pattern}
-use Rattle.eco_ids.specs.declared.refusal.Refusal.{Refusal}
-use Rattle.eco_ids.specs.declared.refusal.Refusal.TheVariants.{BadName, OutOfMemory, SystemNameTaken}
-use Rattle.eco_ids.specs.Names.{is_name, is_text}
-use Rattle.eco_ids.specs.Outcome as outcome
-use Rattle.eco_ids.specs.Outcome.{is_out_of_memory}
-use Rattle.eco_ids.specs.World.{WorldState}
-use Rattle.eco_query.specs.Queries.{QuerySlot}
-use Rattle.eco_systems.specs.declared.phase.Phase.{Phase}
 use Rattle.eco_bodies.specs.Actions.{first_action_refusal, is_kill, script_writes}
 use Rattle.eco_bodies.specs.Added.{IsAdded, add_refusal, has_system_named}
 use Rattle.eco_bodies.specs.Bodies.{system_with}
 use Rattle.eco_bodies.specs.Scripts.{script_commands, script_taken}
-use Rattle.eco_bodies.specs.declared.action.Action.{Action}
 use Rattle.eco_bodies.specs.declared.script.Script.{Script}
 use Rattle.eco_bodies.specs.declared.systems.System.{System}
-use Rattle.eco_frame.specs.Reports.{FrameDone, IsFrameBy}
 use Rattle.eco_frame.specs.Stops.{IsWhy}
-use Rattle.eco_frame.specs.declared.stop.FrameStop.{FrameStop}
+use Rattle.eco_formats.specs.References.{ReadsQuery}
+use Rattle.eco_ids.specs.Outcome as outcome
 use Rattle.eco_steps.specs.Actions as texts
 use Rattle.eco_steps.specs.Steps as step
-use Rattle.eco_formats.specs.References.{ReadsQuery}
-use Rattle.eco_script.specs.Replies.{done, frame_reply, unless, DeclaresSystem, ReadsSystem, StepReplies}
-use Rattle.eco_script.specs.States.{NamedSystem, ScriptState, is_declared, name_refusal, script_system}
-use Rattle.eco_script.specs.Systems.{model_by, named, reached, recorded_by, handles_taken, IsScriptOf, ReadsBody}
 
 -- ---- bodies
 

@@ -1,41 +1,22 @@
 -- Where memory is never wanting, each step has one answer and leads to one world.
-use Rattle.std.proofs.Common.{◌≡◌, ◌≢◌, ℕ, Bool, true, false, true≢false, inl, inr, List, [], ◌∷◌, ◌++◌, Option, Some, None, Result, Ok, Err, refl, ap, ◌∙◌}
-use Rattle.std.proofs.Common.{sym, flat_map, slice_get, ◌||◌, subst, IsFalse, IsTrue, MatchResult, MatchBool}
-use Rattle.std.proofs.lemmas.Bool.{or_parts}
-use Rattle.eco_ids.specs.declared.entity.Entity.{Entity}
-use Rattle.eco_ids.specs.declared.id.Id.{Id}
-use Rattle.eco_ids.specs.declared.refusal.Refusal.{Refusal}
-use Rattle.eco_ids.specs.declared.refusal.Refusal.TheVariants.{NoMoreIds, NotAlive, OutOfMemory}
+use Rattle.eco_script.proofs.Common.{◌≡◌, ◌≢◌, ℕ, Bool, true, false, true≢false, inl, inr, List, [], ◌∷◌, ◌++◌, Option, Some, None}
+use Rattle.eco_script.proofs.Common.{Result, Ok, Err, refl, ap, ◌∙◌, sym, flat_map, slice_get, ◌||◌, subst, IsFalse, IsTrue, MatchResult, MatchBool}
+use Rattle.eco_script.proofs.Common.{or_parts, Entity, Id, Refusal, NoMoreIds, NotAlive, OutOfMemory, list_any, Creates, MakesAlive, MakesComponent, may_admit}
+use Rattle.eco_script.proofs.Common.{admitted, lookup, is_out_of_memory, Refuses, Answers, Meets, QueryTerm, WorldState, entities, is_alive, with_entities}
+use Rattle.eco_script.proofs.Common.{SpellsId, SpellsQuery, SpellsRef, QuerySlot, Reads, ReadsInMemory, ReadsOnce, entity_of_placed, id_of, ok_both, ok_map}
+use Rattle.eco_script.proofs.Common.{query_of, Phase, Action, is_frame, Reply, done, merged, shown, with_declared, AnswersAdded, Calls, Changes, DeclaresSystem}
+use Rattle.eco_script.proofs.Common.{On, ReadsSystem, Replies, StepReplies, Then, NamedSystem, ScriptState, WrittenChange, WrittenCommand, Outcomes, Merges}
+use Rattle.eco_script.proofs.Common.{RunsAdmitted, may_merge, DoesBut, Text, TextInMemory, has_wanted, step_lines}
 use Rattle.eco_ids.specs.declared.value.Value.{Value}
-use Rattle.std.specs.List.{list_any}
-use Rattle.eco_ids.specs.Births.{Creates, MakesAlive, MakesComponent, may_admit}
 use Rattle.eco_ids.specs.Delete.{DeletesOne, DeletesWith}
 use Rattle.eco_ids.specs.Laws.{HasOneEnd}
-use Rattle.eco_ids.specs.Indices.{admitted}
-use Rattle.eco_ids.specs.Names.{lookup}
-use Rattle.eco_ids.specs.Outcome.{is_out_of_memory, Refuses, Answers, Meets}
-use Rattle.eco_ids.specs.Run as run
 use Rattle.eco_ids.specs.Step.{Adds, Sets, Removes, Clears, RemovesAll, Renames}
-use Rattle.eco_ids.specs.Terms.{QueryTerm}
-use Rattle.eco_ids.specs.World.{WorldState, entities, is_alive, with_entities}
-use Rattle.eco_scan.specs.Grammar.{SpellsId, SpellsQuery, SpellsRef}
-use Rattle.eco_query.specs.Queries.{QuerySlot}
-use Rattle.eco_grammar.specs.Readings.{Reads, ReadsInMemory, ReadsOnce, entity_of_placed, id_of, ok_both, ok_map, query_of}
-use Rattle.eco_systems.specs.declared.phase.Phase.{Phase}
-use Rattle.eco_bodies.specs.declared.action.Action.{Action}
-use Rattle.eco_script.specs.Laws.{is_frame}
 use Rattle.eco_formats.specs.Recording.{MakesOfNamed, ReadsAction, ReadsActions, ReadsChange, ReadsCommand, ReadsCommands, ReadsEach, has_stages}
 use Rattle.eco_formats.specs.References.{ReadsBoth, ReadsEntity, ReadsId, ReadsQuery}
-use Rattle.eco_script.specs.Replies.{Reply, done, merged, shown, with_declared, AnswersAdded, Calls, Changes, DeclaresSystem, On}
-use Rattle.eco_script.specs.Replies.{ReadsSystem, Replies, StepReplies, Then}
-use Rattle.eco_script.specs.States.{NamedSystem, ScriptState}
+use Rattle.eco_ids.specs.Run as run
 use Rattle.eco_steps.specs.Actions as texts
-use Rattle.eco_steps.specs.Commands.{WrittenChange, WrittenCommand}
 use Rattle.eco_steps.specs.Commands as command
 use Rattle.eco_steps.specs.Steps as step
-use Rattle.eco_stages.specs.Outcomes.{Outcomes}
-use Rattle.eco_world.specs.Merging.{Merges, RunsAdmitted, may_merge}
-use Rattle.eco_script.specs.Text.{DoesBut, Text, TextInMemory, has_wanted, step_lines}
 
 -- one answer and one end at most, where memory was not wanting, as this tells of an answer
 abbrev OnceBy : {A S : Type 0} → (Result A Refusal → Bool) → (Result A Refusal → S → Type 0) → Type 0

@@ -1,40 +1,24 @@
 -- No step of a script changes the edition of the world.
-use Rattle.std.proofs.Common.{◌≡◌, ◌≤◌, ◌&&◌, ◌||◌, inl, inr, nat_le, arith, ℕ, Bool, true, false, List, [], ◌∷◌, Option, Some, None, Result, map}
-use Rattle.std.proofs.Common.{Ok, Err, IsTrue, MatchBool, MatchOption, refl, ap, ◌∙◌}
-use Rattle.eco_ids.specs.declared.refusal.Refusal.{Refusal}
-use Rattle.eco_ids.specs.declared.refusal.Refusal.TheVariants.{NoMoreIds, Reserved}
+use Rattle.eco_script.proofs.Common.{◌≡◌, ◌≤◌, ◌&&◌, ◌||◌, inl, inr, nat_le, arith, ℕ, Bool, true, false, List, [], ◌∷◌, Option}
+use Rattle.eco_script.proofs.Common.{Some, None, Result, map, Ok, Err, IsTrue, MatchBool, MatchOption, refl, ap, ◌∙◌, Refusal, NoMoreIds, Reserved}
+use Rattle.eco_script.proofs.Common.{Entity, Id, Makes, MakesAliveWith, bare, component_record, may_admit, Indexed, Answers, Meets, Refuses, is_out_of_memory}
+use Rattle.eco_script.proofs.Common.{RenamesWith, QueryTerm, WorldState, Record, OnEntities, entities, has, is_alive, Outcomes, BatchDraws, BatchRuns, InTurn}
+use Rattle.eco_script.proofs.Common.{Merges, RunsAdmitted, ok_map, FrameDone, Frames, FrameStop, AnswersAdded, Calls, On, ReadsSystem, Replies, Reply}
+use Rattle.eco_script.proofs.Common.{StepReplies, done, shown, with_declared, NamedSystem, ScriptState, Phase}
 use Rattle.eco_ids.specs.declared.edition.Edition.{Edition}
-use Rattle.eco_ids.specs.declared.entity.Entity.{Entity}
-use Rattle.eco_ids.specs.declared.id.Id.{Id}
 use Rattle.eco_ids.specs.declared.edition.Edition.TheVariants.{First}
-use Rattle.eco_ids.specs.Births.{Makes, MakesAliveWith, bare, component_record, may_admit}
 use Rattle.eco_ids.specs.Builtin.{is_builtin, is_builtins}
 use Rattle.eco_ids.specs.Cleanup.{Deletes}
 use Rattle.eco_ids.specs.Edition.{largest_arity}
-use Rattle.eco_ids.specs.Indices.{Indexed}
 use Rattle.eco_ids.specs.Losses.{nobody, without}
 use Rattle.eco_ids.specs.Mirrors.{goes_too}
 use Rattle.eco_ids.specs.Order.{entity_eq, id_eq}
-use Rattle.eco_ids.specs.Outcome.{Answers, Meets, Refuses, is_out_of_memory}
-use Rattle.eco_ids.specs.Run as run
-use Rattle.eco_ids.specs.Renaming.{RenamesWith}
 use Rattle.eco_ids.specs.Step.{Extends, Loses, changed, grown, unchanged, unfit, unfit_actor, unfit_set, with_name, with_value}
-use Rattle.eco_ids.specs.Terms.{QueryTerm}
-use Rattle.eco_ids.specs.World.{WorldState, Record, OnEntities, entities, has, is_alive}
 use Rattle.eco_ids.proofs.Grown.{grown_edition}
-use Rattle.eco_stages.specs.Outcomes.{Outcomes}
-use Rattle.eco_systems.specs.Frames.{BatchDraws, BatchRuns, InTurn}
 use Rattle.eco_systems.specs.Systems.{SystemModel}
-use Rattle.eco_world.specs.Merging.{Merges, RunsAdmitted}
-use Rattle.eco_grammar.specs.Readings.{ok_map}
-use Rattle.eco_frame.specs.Reports.{FrameDone, Frames}
-use Rattle.eco_frame.specs.declared.stop.FrameStop.{FrameStop}
-use Rattle.eco_script.specs.Replies.{AnswersAdded, Calls, On, ReadsSystem, Replies, Reply, StepReplies}
-use Rattle.eco_script.specs.Replies.{done, shown, with_declared}
-use Rattle.eco_script.specs.States.{NamedSystem, ScriptState}
+use Rattle.eco_ids.specs.Run as run
 use Rattle.eco_steps.specs.Actions as texts
 use Rattle.eco_steps.specs.Steps as step
-use Rattle.eco_systems.specs.declared.phase.Phase.{Phase}
 
 -- an arity that the edition allows is one that a component may have
 pub arity_allowed : (edition : Edition) (n : ℕ) → n ≤ largest_arity edition → IsTrue (nat_le n (largest_arity First) || nat_le n (largest_arity edition))

@@ -1,38 +1,22 @@
 -- Each step has some answer on every world: what it can't be done for, what it is done with, or that memory was wanting.
-use Rattle.std.proofs.Common.{◌≡◌, ℕ, Bool, true, false, not, ◌&&◌, List, [], ◌∷◌, map, Option, Some, None, Result, Ok, Err, is_some, inr, refl, ap}
-use Rattle.std.proofs.Common.{arith, slice_get, inl, IsTrue, MatchBool, MatchOption}
-use Rattle.std.specs.List.{list_all}
-use Rattle.eco_ids.specs.declared.entity.Entity.{Entity}
-use Rattle.eco_ids.specs.declared.id.Id.{Id}
-use Rattle.eco_ids.specs.declared.refusal.Refusal.{Refusal}
-use Rattle.eco_ids.specs.declared.refusal.Refusal.TheVariants.{NotAlive, DeadId, Reserved, NotData, TooWide, BadName, NameTaken, Taken}
-use Rattle.eco_ids.specs.declared.refusal.Refusal.TheVariants.{NoMoreIds, NoSuchQuery, OutOfMemory}
-use Rattle.eco_ids.specs.Answer.{answer}
+use Rattle.eco_script.proofs.Common.{◌≡◌, ℕ, Bool, true, false, not, ◌&&◌, List, [], ◌∷◌, map, Option, Some, None, Result, Ok, Err, is_some}
+use Rattle.eco_script.proofs.Common.{inr, refl, ap, arith, slice_get, inl, IsTrue, MatchBool, MatchOption, list_all, Entity, Id, Refusal, NotAlive, DeadId}
+use Rattle.eco_script.proofs.Common.{Reserved, NotData, TooWide, BadName, NameTaken, Taken, NoMoreIds, NoSuchQuery, OutOfMemory, answer, Makes, MakesAliveWith}
+use Rattle.eco_script.proofs.Common.{bare, component_record, may_admit, may_make, Indexed, admitted, is_free_at, next_entity, with_new, lookup, is_borne}
+use Rattle.eco_script.proofs.Common.{is_proper, is_taken, is_same_name, first_refusal, is_out_of_memory, Refuses, Answers, Meets, RenamesWith, QueryTerm}
+use Rattle.eco_script.proofs.Common.{WorldState, Record, OnEntities, has, names_living, is_alive, living, entities, with_entities, SpellsId, SpellsQuery}
+use Rattle.eco_script.proofs.Common.{SpellsRef, QuerySlot, ReadsAll, entity_of_placed, id_of, ok_both, ok_map, query_of, FrameStop, ScriptState, Reply, truth}
+use Rattle.eco_script.proofs.Common.{got, shown, listed, found, merged, stopped, AnswersAdded, Calls, On, Replies, StepReplies, WrittenChange, Does, step_lines}
 use Rattle.eco_answers.specs.Answers.{asked}
-use Rattle.eco_ids.specs.Births.{Makes, MakesAliveWith, bare, component_record, may_admit, may_make}
 use Rattle.eco_ids.specs.Builtin.{is_builtin, is_builtins}
 use Rattle.eco_ids.specs.Data.{arity, fits}
-use Rattle.eco_ids.specs.Indices.{Indexed, admitted, is_free_at, next_entity, with_new}
-use Rattle.eco_ids.specs.Names.{lookup, is_borne, is_proper, is_taken, is_same_name}
-use Rattle.eco_ids.specs.Outcome.{first_refusal, is_out_of_memory, Refuses, Answers, Meets}
-use Rattle.eco_ids.specs.Renaming.{RenamesWith}
-use Rattle.eco_ids.specs.Run as run
 use Rattle.eco_ids.specs.Step.{Extends, changed, has_ids, is_held, is_reserved, own_name, unchanged, unfit_actor, with_name, with_value}
-use Rattle.eco_ids.specs.Terms.{QueryTerm}
-use Rattle.eco_ids.specs.World.{WorldState, Record, OnEntities, has, names_living, is_alive, living, entities, with_entities}
-use Rattle.eco_scan.specs.Grammar.{SpellsId, SpellsQuery, SpellsRef}
-use Rattle.eco_query.specs.Queries.{QuerySlot}
-use Rattle.eco_grammar.specs.Readings.{ReadsAll, entity_of_placed, id_of, ok_both, ok_map, query_of}
-use Rattle.eco_frame.specs.declared.stop.FrameStop.{FrameStop}
-use Rattle.eco_script.specs.States.{ScriptState}
 use Rattle.eco_formats.specs.Recording.{MakesOfNamed, ReadsChange}
 use Rattle.eco_formats.specs.References.{ReadsBoth, ReadsEntity, ReadsId, ReadsQuery}
-use Rattle.eco_script.specs.Replies.{Reply, truth, got, shown, listed, found, merged, stopped, AnswersAdded, Calls, On, Replies, StepReplies}
-use Rattle.eco_steps.specs.Commands.{WrittenChange}
+use Rattle.eco_formats.specs.Values.{shown_value}
+use Rattle.eco_ids.specs.Run as run
 use Rattle.eco_steps.specs.Commands as change
 use Rattle.eco_steps.specs.Steps as step
-use Rattle.eco_script.specs.Text.{Does, step_lines}
-use Rattle.eco_formats.specs.Values.{shown_value}
 
 -- some answer, and some state after it
 abbrev Ends : {A S : Type 0} → (Result A Refusal → S → Type 0) → Type 0

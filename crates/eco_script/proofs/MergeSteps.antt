@@ -1,17 +1,9 @@
 -- The step of a merge, of what was read of its texts.
-use Rattle.std.proofs.Common.{◌≡◌, ℕ, ◌||◌, List, [], ◌∷◌, flat_map, Result, Ok, Err, IsTrue, IsFalse, refl}
-use Rattle.eco_ids.specs.declared.refusal.Refusal.{Refusal}
-use Rattle.eco_ids.specs.declared.refusal.Refusal.TheVariants.{OutOfMemory}
-use Rattle.eco_ids.specs.Outcome.{is_out_of_memory, Meets}
-use Rattle.eco_ids.specs.Run as run
-use Rattle.eco_ids.specs.World.{WorldState}
-use Rattle.eco_grammar.specs.Readings.{ok_map}
-use Rattle.eco_steps.specs.Commands.{WrittenCommand}
-use Rattle.eco_steps.specs.Steps as step
-use Rattle.eco_stages.specs.Outcomes.{Outcomes}
-use Rattle.eco_world.specs.Merging.{Merges, may_merge}
+use Rattle.eco_script.proofs.Common.{◌≡◌, ℕ, ◌||◌, List, [], ◌∷◌, flat_map, Result, Ok, Err, IsTrue, IsFalse, refl, Refusal, OutOfMemory}
+use Rattle.eco_script.proofs.Common.{is_out_of_memory, Meets, WorldState, ok_map, WrittenCommand, Outcomes, Merges, may_merge, Replies, merged}
 use Rattle.eco_formats.specs.Recording.{ReadsCommands, has_stages}
-use Rattle.eco_script.specs.Replies.{Replies, merged}
+use Rattle.eco_ids.specs.Run as run
+use Rattle.eco_steps.specs.Steps as step
 
 module _ (w : WorldState) where
   -- a text was refused, or memory was wanting for what is recorded

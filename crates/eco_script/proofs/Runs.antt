@@ -1,19 +1,13 @@
 -- One step after another, and steps that nothing keeps from running.
-use Rattle.std.proofs.Common.{subst, ◌≤◌, ◌≡◌, ℕ, ◌+◌, ◌<◌, List, [], ◌∷◌, ◌++◌, length, map, take, drop, get_or, Option, Some, None, IsSomeAnd, refl, ap}
-use Rattle.std.proofs.Common.{◌∙◌, sym}
-use Rattle.std.proofs.Common.{append_assoc, inr}
-use Rattle.std.proofs.KnownBytes.{Appends-trans}
-use Rattle.std.proofs.lemmas.List.{append-nil, take_all, take_more, map-append, take-append-drop}
+use Rattle.eco_script.proofs.Common.{subst, ◌≤◌, ◌≡◌, ℕ, ◌+◌, ◌<◌, List, [], ◌∷◌, ◌++◌, length, map, take, drop, get_or, Option}
+use Rattle.eco_script.proofs.Common.{Some, None, IsSomeAnd, refl, ap, ◌∙◌, sym, append_assoc, inr, Appends-trans, append-nil, take_all, take_more}
+use Rattle.eco_script.proofs.Common.{map-append, take-append-drop, WorldState, ScriptState, WrittenStep, Does, Text}
 use Rattle.std.specs.Io.KnownBytes.{Appends, Consumes, IsAtEnd}
-use Rattle.eco_ids.specs.World.{WorldState}
 use Rattle.eco_script.specs.Run.{RanTo, WasNotRead, WasStopped, beginning}
 use Rattle.serde_json.specs.Data.{Data}
 use Rattle.serde_json.specs.Read.{read}
 use Rattle.eco_steps.specs.Script.{WrittenScript, IsScript, IsScriptData}
-use Rattle.eco_script.specs.States.{ScriptState}
 use Rattle.eco_devices.specs.Beginning.{IsBeginning}
-use Rattle.eco_steps.specs.Steps.{WrittenStep}
-use Rattle.eco_script.specs.Text.{Does, Text}
 use Rattle.eco_script.proofs.Ends.{TextsRead, some_step}
 
 begins : (t q r u more : List ℕ) → u ≡ q ++ r → (t ++ u) ++ more ≡ (t ++ q) ++ (r ++ more)

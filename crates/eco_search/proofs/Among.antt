@@ -1,9 +1,8 @@
 -- Nodes among others.
-use Rattle.std.proofs.Common.{◌≡◌, ℕ, zero, suc, ◌<◌, length, get_or, arith, Bool, true, false, ◌||◌, ◌⊎◌, inl, inr, List, [], ◌∷◌, ◌++◌, refl, sym, ◌∙◌}
-use Rattle.std.proofs.Common.{true≢false, IsTrue}
-use Rattle.std.proofs.lemmas.Bool.{or_left, or_right}
+use Rattle.eco_search.proofs.Common.{or_left, or_right, IsEquivalence}
+use Rattle.std.proofs.Common.{◌≡◌, ℕ, zero, suc, ◌<◌, length, get_or, arith, Bool, true, false, ◌||◌, ◌⊎◌, inl, inr, List, [], ◌∷◌}
+use Rattle.std.proofs.Common.{◌++◌, refl, sym, ◌∙◌, true≢false, IsTrue}
 use Rattle.std.proofs.lemmas.List.Folds.{list_any-append}
-use Rattle.std.specs.Cmp.{IsEquivalence}
 use Rattle.eco_ids.proofs.Facts.{or_parts}
 use Rattle.eco_search.specs.Search.{is_among}
 

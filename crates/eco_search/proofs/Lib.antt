@@ -1,2 +1,3 @@
+pub mod Common
 pub mod Among
 pub mod Search

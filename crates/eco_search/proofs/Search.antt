@@ -1,11 +1,11 @@
 -- A search that asks its members in turn ends, with the least set.
-use Rattle.std.proofs.Common.{◌≡◌, ℕ, suc, ◌+◌, ◌-◌, ◌<◌, ◌≤◌, Bool, true, false, cond, ◌||◌, ◌↔◌, ◌⊎◌, inl, inr, List, [], ◌∷◌, ◌++◌, length, take, get_or}
-use Rattle.std.proofs.Common.{refl, sym, ap, ◌∙◌, subst, true≢false, IsTrue, arith, length-append, append_assoc}
+use Rattle.eco_search.proofs.Common.{or_left, IsEquivalence}
+use Rattle.std.proofs.Common.{◌≡◌, ℕ, suc, ◌+◌, ◌-◌, ◌<◌, ◌≤◌, Bool, true, false, cond, ◌||◌, ◌↔◌, ◌⊎◌, inl, inr}
+use Rattle.std.proofs.Common.{List, [], ◌∷◌, ◌++◌, length, take, get_or, refl, sym, ap, ◌∙◌, subst, true≢false, IsTrue, arith, length-append}
+use Rattle.std.proofs.Common.{append_assoc}
 use Rattle.std.proofs.Math.Seq.{take-length}
 use Rattle.std.proofs.lemmas.List.{append-nil, take_more, take-append-le}
-use Rattle.std.proofs.lemmas.Bool.{or_left}
 use Rattle.std.proofs.Math.Bool.{or-false, or_assoc}
-use Rattle.std.specs.Cmp.{IsEquivalence}
 use Rattle.indexmap.specs.IndexSet.{insert_all, insert_key}
 use Rattle.eco_ids.specs.Least.{Least, root, next}
 use Rattle.eco_ids.proofs.Facts.{or_parts, or_right}

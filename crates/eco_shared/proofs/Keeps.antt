@@ -1,16 +1,11 @@
 -- Each step keeps the rule.
-use Rattle.std.proofs.Common.{◌≡◌, ◌≢◌, ℕ, zero, suc, true, false, true≢false, List, [], ◌∷◌, ◌++◌, set, refl, sym, ap, ◌∙◌, subst, ⊎_elim}
+use Rattle.eco_shared.proofs.Common.{◌≡◌, ◌≢◌, ℕ, zero, suc, true, false, true≢false, List, [], ◌∷◌, ◌++◌, set, refl, sym, ap}
+use Rattle.eco_shared.proofs.Common.{◌∙◌, subst, ⊎_elim, mark_of, WorldState, Merge, Knows, Shown, IsAfter, IsMerged, shown_world, history, shown_state}
+use Rattle.eco_shared.proofs.Common.{knows, nothing, KnowsOf, Follows, GoesOn, Kept, Sees, Opens, Stays}
 use mathlib.Core.Option.{some, some-ne-none, some-injective}
 use lib.ListN.{get_elem?}
 use Rattle.crossbeam_utils.specs.Register.{Admits, Turns, TurnsAt, Forks, Merges}
 use Rattle.atomic_table.proofs.Lists.{at_set, at_snoc}
-use Rattle.eco_histories.specs.Marks.{mark_of}
-use Rattle.eco_ids.specs.World.{WorldState}
-use Rattle.eco_shared.specs.declared.merge.Merge.{Merge}
-use Rattle.eco_shared.specs.declared.merge.Knows.{Knows}
-use Rattle.eco_shared.specs.declared.shown.Shown.{Shown}
-use Rattle.eco_shared.specs.Histories.{IsAfter, IsMerged}
-use Rattle.eco_shared.specs.Sharing.{shown_world, history, shown_state, knows, nothing, KnowsOf, Follows, GoesOn, Kept, Sees, Opens, Stays}
 
 off : false ≡ true → ⊥
 off e = true≢false (sym e)

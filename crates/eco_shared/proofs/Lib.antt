@@ -1,3 +1,4 @@
+pub mod Common
 pub mod Keeps
 pub mod OneEnd
 pub mod Repeats

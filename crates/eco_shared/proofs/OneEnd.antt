@@ -1,11 +1,11 @@
 -- The same merge of one world has one report and leads to one world.
-use Rattle.std.proofs.Common.{◌≡◌, ℕ, Bool, true, false, true≢false, IsTrue, List, [], ◌∷◌, Result, Ok, Err, refl, sym, ap, ◌∙◌, subst, MatchBool}
+use Rattle.eco_shared.proofs.Common.{◌≡◌, ℕ, Bool, true, false, true≢false, IsTrue, List, [], ◌∷◌, Result, Ok, Err, refl, sym, ap, ◌∙◌}
+use Rattle.eco_shared.proofs.Common.{subst, MatchBool, WorldState, entities, with_entities}
 use Rattle.std.specs.Bool.{beq}
 use Rattle.eco_ids.specs.Births.{may_admit}
 use Rattle.eco_ids.specs.Indices.{admitted}
 use Rattle.eco_ids.specs.Outcome.{Meets, Refuses, is_out_of_memory}
 use Rattle.eco_ids.specs.Run.{Command, Applies, Runs, may_want}
-use Rattle.eco_ids.specs.World.{WorldState, entities, with_entities}
 use Rattle.eco_ids.specs.declared.refusal.Refusal.{Refusal}
 use Rattle.eco_ids.specs.declared.refusal.Refusal.TheVariants.{OutOfMemory, NoMoreIds}
 use Rattle.eco_ids.proofs.Ascending.{first, second}

@@ -1,11 +1,8 @@
 -- The spare world comes to the one that is shown.
-use Rattle.std.proofs.Common.{◌≡◌, Option, Some, None, refl, subst, sym}
-use Rattle.std.specs.Arc.{arc_value}
-use Rattle.eco_ids.specs.World.{WorldState}
+use Rattle.eco_shared.proofs.Common.{◌≡◌, Option, Some, None, refl, subst, sym, arc_value, WorldState, IsMerged, KeepsUp, Leads, MergesHaveOneEnd}
+use Rattle.eco_shared.proofs.Common.{Repeats, merge_of}
 use Rattle.eco_shared.specs.declared.spare.Last.{Last}
 use Rattle.eco_shared.specs.declared.spare.Spare.{Spare}
-use Rattle.eco_shared.specs.Histories.{IsMerged}
-use Rattle.eco_shared.specs.Repeating.{KeepsUp, Leads, MergesHaveOneEnd, Repeats, merge_of}
 
 -- where there is no spare world nothing is asked
 pub none_keeps : (now : WorldState) → KeepsUp None now

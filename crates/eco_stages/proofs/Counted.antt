@@ -1,10 +1,7 @@
 -- How many outcomes there are.
-use Rattle.std.proofs.Common.{◌≤◌, ℕ, ◌+◌, List, [], ◌∷◌, flat_map, length, Err, Ok, Result, ap, append_assoc}
-use Rattle.std.proofs.lemmas.List.{length-append, length-replicate}
-use native.Mathlib.Omega.{arith}
-use Rattle.eco_ids.specs.declared.refusal.Refusal.{Refusal}
+use Rattle.eco_stages.proofs.Common.{◌≤◌, ℕ, ◌+◌, List, [], ◌∷◌, flat_map, length, Err, Ok, Result, ap, append_assoc, length-append}
+use Rattle.eco_stages.proofs.Common.{length-replicate, arith, Refusal, all_done, outcomes_of, until_refused}
 use Rattle.eco_stages.specs.declared.outcomes.Refused.{Refused}
-use Rattle.eco_stages.specs.Outcomes.{all_done, outcomes_of, until_refused}
 
 -- those that were refused are among them, and so are the done ones behind the last
 pub counts : (rs : List Refused) (n : ℕ) → length rs + n ≤ length (outcomes_of rs n)

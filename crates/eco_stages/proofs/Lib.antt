@@ -1,2 +1,3 @@
+pub mod Common
 pub mod Counted
 pub mod Merges

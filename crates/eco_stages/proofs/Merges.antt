@@ -1,15 +1,11 @@
 -- Commands that are done one after another, and their outcomes.
-use Rattle.std.proofs.Common.{◌≡◌, ◌≤◌, ◌<◌, ℕ, ◌+◌, ◌-◌, ◌^◌, List, [], ◌∷◌, ◌++◌, length, take, get_or, IsTrue}
-use Rattle.std.proofs.Common.{Result, Ok, Err, IfOk, OnErr, OnOk, refl, sym, ap, ◌∙◌}
-use Rattle.std.proofs.lemmas.List.{append-nil, append_assoc, flat_map_more, take_more, length-append}
-use native.Mathlib.Omega.{arith}
+use Rattle.eco_stages.proofs.Common.{◌≡◌, ◌≤◌, ◌<◌, ℕ, ◌+◌, ◌-◌, ◌^◌, List, [], ◌∷◌, ◌++◌, length, take, get_or, IsTrue}
+use Rattle.eco_stages.proofs.Common.{Result, Ok, Err, IfOk, OnErr, OnOk, refl, sym, ap, ◌∙◌, append-nil, append_assoc, flat_map_more, take_more}
+use Rattle.eco_stages.proofs.Common.{length-append, arith, Refusal, AreDone, all_commands, has_commands, Outcomes, Written}
 use Rattle.eco_ids.specs.Laws.{RunsCompose}
 use Rattle.eco_ids.specs.Outcome.{Meets}
 use Rattle.eco_ids.specs.Run.{Command, Runs, Applies, may_want}
 use Rattle.eco_ids.specs.World.{WorldState}
-use Rattle.eco_ids.specs.declared.refusal.Refusal.{Refusal}
-use Rattle.eco_stages.specs.Merging.{AreDone, all_commands, has_commands}
-use Rattle.eco_stages.specs.Outcomes.{Outcomes, Written}
 
 -- each command that ran has an outcome
 pub runs_length : (cs : List Command) (rs : Outcomes) (w new : WorldState) → Runs w cs rs new → length rs ≡ length cs

@@ -1,17 +1,12 @@
 -- What is found in a value is exactly the phase, or the actions, that it is.
-use Rattle.std.proofs.Common.{◌≡◌, ℕ, List, [], ◌∷◌, map, Some, None, option_and_then, refl, codes, arith}
-use Rattle.std.specs.Str.{bytes_eq}
-use Rattle.std.proofs.lemmas.Option.{option_and_then_some}
+use Rattle.eco_steps.proofs.Common.{◌≡◌, ℕ, List, [], ◌∷◌, map, Some, None, option_and_then, refl, codes, arith, bytes_eq, option_and_then_some}
+use Rattle.eco_steps.proofs.Common.{as_str, Edition, list_in, each_in, value_of_data, slot_in, phase_of, bare_actions, text_actions, action_of_none}
+use Rattle.eco_steps.proofs.Common.{action_of_text, action_of_slot, action_of, action_in, actions_in, words_in}
 use Rattle.serde_json.specs.Data.{Data, string}
-use Rattle.serde_json.specs.Find.{as_str}
-use Rattle.eco_ids.specs.declared.edition.Edition.{Edition}
 use Rattle.eco_systems.specs.declared.phase.Phase.{Phase}
 use Rattle.eco_systems.specs.declared.phase.Phase.TheVariants.{OnLoad, PostLoad, PreUpdate, OnUpdate, OnValidate, PostUpdate, PreStore, OnStore}
 use Rattle.eco_systems.specs.Phases.{phases}
 use Rattle.eco_steps.specs.Actions.{WrittenAction, add, remove, put, sum, kill, spawn}
-use Rattle.eco_steps.specs.Decode.{list_in, each_in, value_of_data, slot_in, phase_of, bare_actions, text_actions, action_of_none, action_of_text}
-use Rattle.eco_steps.specs.Decode.{action_of_slot, action_of}
-use Rattle.eco_steps.specs.Decode.{action_in, actions_in, words_in}
 use Rattle.eco_steps.specs.Steps.{IsSlotData, IsActionData, IsActionsData, phase_word, written_list}
 use Rattle.eco_steps.proofs.Parts.{number_in_range, value_found, chosen, of_table, word_is, str_is, number_is, list_is, value_is, words_is}
 use Rattle.eco_steps.proofs.Values.{mapped, items_list-items_of, each_found, each_is}

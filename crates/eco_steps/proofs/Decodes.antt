@@ -1,31 +1,21 @@
 -- What is found in a value is exactly the script that it is.
-use Rattle.std.proofs.Common.{◌≡◌, ◌≤◌, ℕ, zero, suc, true, List, [], ◌∷◌, map}
-use Rattle.std.proofs.Common.{Option, Some, None, option_map, option_and_then, refl, ap, sym, ◌∙◌, codes, arith}
-use Rattle.std.specs.Option.{option_or}
-use Rattle.std.specs.Str.{bytes_eq}
-use Rattle.std.specs.List.{All, AllZip}
+use Rattle.eco_steps.proofs.Common.{◌≡◌, ◌≤◌, ℕ, zero, suc, true, List, [], ◌∷◌, map, Option, Some, None, option_map, option_and_then, refl}
+use Rattle.eco_steps.proofs.Common.{ap, sym, ◌∙◌, codes, arith, option_or, bytes_eq, All, AllZip, option_and_then_some, as_str, Edition, First, Second}
+use Rattle.eco_steps.proofs.Common.{builtin_count, largest_arity, list_in, each_in, name_in, number_in, value_of_data, change_with, change_of_text}
+use Rattle.eco_steps.proofs.Common.{change_of_texts, change_of_two, change_of_three, text_changes, texts_changes, bare_steps, text_steps, texts_steps}
+use Rattle.eco_steps.proofs.Common.{created_of, command_with, command_in, stage_in, stages_in, step_of_none, step_of_one, step_of_text, step_of_texts}
+use Rattle.eco_steps.proofs.Common.{step_of_two, step_of, words_in, merge_of_data, phase_of, actions_in, named_system_of_data, system_of_data, step_with}
+use Rattle.eco_steps.proofs.Common.{step_in, Parts, edition_of, limit_in, parts_of, parts_in, parts_with, script_of, script_in, version_in}
 use Rattle.std.proofs.lemmas.List.Elements.{All-cons, All-nil}
-use Rattle.std.proofs.lemmas.Option.{option_and_then_some}
 use Rattle.serde_json.specs.Data.{Data, number, string, unsigned}
-use Rattle.serde_json.specs.Find.{as_str}
-use Rattle.eco_ids.specs.declared.edition.Edition.{Edition}
-use Rattle.eco_ids.specs.declared.edition.Edition.TheVariants.{First, Second}
-use Rattle.eco_ids.specs.Edition.{builtin_count, largest_arity}
-use Rattle.eco_steps.specs.Decode.{list_in, each_in, name_in, number_in, value_of_data, change_with, change_of_text, change_of_texts, change_of_two}
-use Rattle.eco_steps.specs.Decode.{change_of_three}
-use Rattle.eco_steps.specs.Decode.{text_changes, texts_changes, bare_steps, text_steps, texts_steps}
-use Rattle.eco_steps.specs.Decode.{created_of, command_with, command_in, stage_in, stages_in, step_of_none, step_of_one, step_of_text, step_of_texts}
-use Rattle.eco_steps.specs.Decode.{step_of_two, step_of}
-use Rattle.eco_steps.specs.Decode.{words_in, merge_of_data, phase_of, actions_in, named_system_of_data, system_of_data, step_with}
-use Rattle.eco_steps.specs.Decode.{step_in, Parts, edition_of, limit_in, parts_of, parts_in, parts_with, script_of, script_in, version_in}
 use Rattle.eco_steps.specs.Script.{WrittenScript, IsScriptData, IsScript, version}
-use Rattle.eco_steps.specs.Steps.{WrittenStep, create, component, change, has, get, show, list, query, cache, cached, merge, system, frame}
+use Rattle.eco_steps.specs.Steps.{WrittenStep, create, component, change, has, get, show, list, query, cache, cached, merge, system, frame, IsChangeData}
+use Rattle.eco_steps.specs.Steps.{IsCommandData, IsStageData, IsStagesData, IsStepData, KeepsTo, written_list, list_data}
 use Rattle.eco_steps.specs.Commands.{WrittenChange, WrittenCommand, add, remove, set, clear, rename, delete, delete_with, remove_all}
-use Rattle.eco_steps.specs.Commands as command
-use Rattle.eco_steps.specs.Steps.{IsChangeData, IsCommandData, IsStageData, IsStagesData, IsStepData, KeepsTo, written_list, list_data}
 use Rattle.eco_steps.proofs.Values.{mapped, items_list-items_of, each_found, each_is}
 use Rattle.eco_steps.proofs.Parts.{number_in_range, value_found, chosen, of_table, word_is, str_is, name_is, number_is, list_is, value_is, words_is}
 use Rattle.eco_steps.proofs.Acts.{phase_found, phase_is, actions_found, actions_are}
+use Rattle.eco_steps.specs.Commands as command
 
 module _ (edition : Edition) where
   -- ---- what is written is found

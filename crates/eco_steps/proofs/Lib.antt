@@ -1,3 +1,4 @@
+pub mod Common
 pub mod Acts
 pub mod Decodes
 pub mod Parts

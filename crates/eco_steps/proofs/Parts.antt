@@ -1,25 +1,16 @@
 -- Numbers, texts, names and values of steps: what is found in one is exactly what it is written as.
-use Rattle.std.proofs.Common.{◌≡◌, ◌+◌, ◌≤◌, ◌^◌, ◌<◌, ◌-◌, ℕ, ℤ, pos, negsuc, Bool, true, false, List, [], ◌∷◌, ◌++◌, length, take, drop, replicate, map}
-use Rattle.std.proofs.Common.{nat_lt, nat_le, ◌&&◌, Option, Some, None, option_map, if◌then◌else◌, refl, ap, sym, ◌∙◌, arith}
-use Rattle.std.proofs.Common.{get_or, set as set_at, to_z, of_z}
+use Rattle.eco_steps.proofs.Common.{◌≡◌, ◌+◌, ◌≤◌, ◌^◌, ◌<◌, ◌-◌, ℕ, ℤ, pos, negsuc, Bool, true, false, List, [], ◌∷◌}
+use Rattle.eco_steps.proofs.Common.{◌++◌, length, take, drop, replicate, map, nat_lt, nat_le, ◌&&◌, Option, Some, None, option_map, if◌then◌else◌}
+use Rattle.eco_steps.proofs.Common.{refl, ap, sym, ◌∙◌, arith, get_or, to_z, of_z, bytes_eq, append-nil, drop_all, drop-drop, drop-replicate, drop-set-lt}
+use Rattle.eco_steps.proofs.Common.{length-drop, length-map, length-replicate, take-append-drop, take_more_set, AllZip-long, option_and_then_some, as_str}
+use Rattle.eco_steps.proofs.Common.{Edition, First, Second, FIELD_COUNT, largest_arity, padded, items_list, list_in, each_in, name_in, number_in, integer_in}
+use Rattle.eco_steps.proofs.Common.{value_of_items, value_of_data, Words, at_word, words_of, words_in}
+use Rattle.std.proofs.Common.{set as set_at}
 use Rattle.std.specs.Int.{w64}
-use Rattle.std.specs.Str.{bytes_eq}
 use Rattle.std.proofs.lemmas.Int.{to_z-of_z}
-use Rattle.std.proofs.lemmas.List.{append-nil, drop_all, drop-drop, drop-replicate, drop-set-lt, length-drop, length-map, length-replicate, take-append-drop}
-use Rattle.std.proofs.lemmas.List.{take_more_set}
 use Rattle.std.proofs.lemmas.Slice.Eq.{bytes_eq-Decides}
-use Rattle.std.proofs.lemmas.Slice.Zip.{AllZip-long}
-use Rattle.std.proofs.lemmas.Option.{option_and_then_some}
 use Rattle.serde_json.specs.Data.{Data, null, number, string, array, unsigned, negative}
-use Rattle.serde_json.specs.Find.{as_str}
-use Rattle.eco_ids.specs.declared.edition.Edition.{Edition}
-use Rattle.eco_ids.specs.declared.edition.Edition.TheVariants.{First, Second}
-use Rattle.eco_ids.specs.declared.value.TheConstants.{FIELD_COUNT}
 use Rattle.eco_ids.specs.declared.value.Value.{Value}
-use Rattle.eco_ids.specs.Edition.{largest_arity}
-use Rattle.eco_ids.specs.World.{padded}
-use Rattle.eco_steps.specs.Decode.{items_list, list_in, each_in, name_in, number_in, integer_in, value_of_items, value_of_data}
-use Rattle.eco_steps.specs.Decode.{Words, at_word, words_of, words_in}
 use Rattle.eco_steps.specs.Steps.{IsIntegerData, IsValueData, written_list, list_data, name_data}
 use Rattle.eco_steps.proofs.Values.{mapped, items_list-items_of, items_of-items_list, each_found, each_is, one_more}
 

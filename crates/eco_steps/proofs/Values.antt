@@ -1,13 +1,8 @@
 -- Reading items from values, one after another.
-use Rattle.std.proofs.Common.{◌≡◌, ℕ, ◌+◌, ◌<◌, zero, suc, List, [], ◌∷◌, ◌++◌, length, map, drop, get_or, slice_get, Option}
-use Rattle.std.proofs.Common.{Some, None, option_map, option_and_then, ◌&&◌, Bool, true, false, refl, ap, sym, ◌∙◌, append_assoc}
-use Rattle.std.specs.Option.{is_some, IsSome, unwrap_or}
-use Rattle.std.specs.List.{AllZip, list_all}
-use Rattle.std.proofs.lemmas.List.{drop_more}
-use Rattle.std.proofs.lemmas.Slice.Zip.{AllZip-long}
+use Rattle.eco_steps.proofs.Common.{◌≡◌, ℕ, ◌+◌, ◌<◌, zero, suc, List, [], ◌∷◌, ◌++◌, length, map, drop, get_or, slice_get, Option}
+use Rattle.eco_steps.proofs.Common.{Some, None, option_map, option_and_then, ◌&&◌, Bool, true, false, refl, ap, sym, ◌∙◌, append_assoc, is_some}
+use Rattle.eco_steps.proofs.Common.{IsSome, unwrap_or, AllZip, list_all, drop_more, AllZip-long, items_of, items_list, list_in, each_in}
 use Rattle.serde_json.specs.Data.{Data, Items, no_items, item}
-use Rattle.serde_json.specs.View.{items_of}
-use Rattle.eco_steps.specs.Decode.{items_list, list_in, each_in}
 
 -- what was made is made of something
 pub mapped : {A B P : Type 0} (f : A → B) (o : Option A) (y : B) → option_map f o ≡ Some y → ((x : A) → o ≡ Some x → y ≡ f x → P) → P

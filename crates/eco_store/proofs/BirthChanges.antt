@@ -1,31 +1,16 @@
 -- The store after an entity came to live in a row of its own.
-use Rattle.std.proofs.Common.{◌≡◌, ◌≢◌, ℕ, ◌≤◌, List, [], ◌∷◌, ◌++◌, map, length, slice_get, Option, Some, None, option_map, is_some, IsTrue, replicate, Bool}
-use Rattle.std.proofs.Common.{◌<◌, if◌then◌else◌, arith}
-use Rattle.std.proofs.Common.{true, false, ◌&&◌, nat_le, MatchBool, Result, Ok, MatchOption, zero, suc, ◌+◌, refl, sym, ap, subst, ◌∙◌}
-use Rattle.std.proofs.lemmas.List.{length-map, map-append}
-use Rattle.eco_ids.specs.World.{Record}
-use Rattle.eco_ids.specs.declared.entity.Entity.{Entity}
-use Rattle.eco_ids.specs.declared.id.Id.{Id}
-use Rattle.eco_ids.specs.declared.refusal.Refusal.{Refusal}
-use Rattle.eco_ids.specs.declared.refusal.Refusal.TheVariants.{NoMoreIds}
-use Rattle.eco_ids.specs.Births.{Admits, may_admit, Makes, may_make}
-use Rattle.eco_ids.specs.Outcome.{Meets, is_out_of_memory, Answers, Refuses}
-use Rattle.eco_ids.specs.Indices.{changed, change_kept, Indexed, IndexState, Retired, Free, Living, with_record, with_new, next_entity, is_alive, is_free_at}
-use Rattle.eco_ids.specs.Indices.{is_free_in, map_state, admitted}
-use Rattle.eco_tables.specs.Table.{TableState, retyped_row}
+use Rattle.eco_store.proofs.Common.{◌≡◌, ◌≢◌, ℕ, ◌≤◌, List, [], ◌∷◌, ◌++◌, map, length, slice_get, Option, Some, None, option_map}
+use Rattle.eco_store.proofs.Common.{is_some, IsTrue, replicate, Bool, ◌<◌, if◌then◌else◌, arith, true, false, ◌&&◌, nat_le, MatchBool, Result, Ok}
+use Rattle.eco_store.proofs.Common.{MatchOption, zero, suc, ◌+◌, refl, sym, ap, subst, ◌∙◌, length-map, map-append, Record, Entity, Id, Refusal}
+use Rattle.eco_store.proofs.Common.{NoMoreIds, Admits, may_admit, Makes, may_make, Meets, is_out_of_memory, Answers, Refuses, changed, change_kept, Indexed}
+use Rattle.eco_store.proofs.Common.{IndexState, Retired, Free, Living, with_record, with_new, next_entity, is_alive, is_free_at, is_free_in, map_state}
+use Rattle.eco_store.proofs.Common.{admitted, TableState, retyped_row, Place, CreatesRegistration, Registration, given_name, newcomer, placed, rows_in, PutsRow}
+use Rattle.eco_store.proofs.Common.{IsSeated, held_of, row_at, SameRows, CreatesRecord, record_name, record_for, read, seat_in, seat_at, HasPlace, IsStore}
+use Rattle.eco_store.proofs.Common.{newborn, slice_get_within, Decides-ltb, slice_get-set_there, slice_get-set_other, map-replicate, record_at}
 use Rattle.eco_tables.specs.Tables.{new_row as row_of}
-use Rattle.eco_entities.specs.declared.place.Place.{Place}
-use Rattle.eco_entities.specs.Registration.{CreatesRegistration, Registration, given_name, newcomer, placed}
-use Rattle.eco_store.specs.Layout.{rows_in, PutsRow}
-use Rattle.eco_store.specs.Seats.{IsSeated, seen, held_of}
-use Rattle.eco_archetypes.specs.Archetypes.{row_at, SameRows}
-use Rattle.eco_store.specs.Store.{CreatesRecord, record_name, record_for, read, seat_in, seat_at, HasPlace, IsStore, newborn}
-use Rattle.std.proofs.lemmas.Option.{slice_get_within}
-use Rattle.std.proofs.lemmas.Bool.Decides.{Decides-ltb}
+use Rattle.eco_store.specs.Seats.{seen}
 use Rattle.eco_store.proofs.RowChanges.{rows_pushed}
 use Rattle.eco_store.proofs.SeatChanges.{Pushed, pushed_change}
-use Rattle.eco_ids.proofs.Lists.{slice_get-set_there, slice_get-set_other, map-replicate}
-use Rattle.eco_ids.proofs.States.{record_at}
 use Rattle.eco_store.proofs.Views.{alike_but, alike_set, at_each, bare, each_state, read_at, seen_alike}
 use Rattle.eco_store.proofs.Newborn.{create_done, create_made, create_refused, refused, Vacant, born_here, born_other, born_limit, next_is}
 use Rattle.eco_store.proofs.StoreChanges.{same_read}

@@ -1,28 +1,14 @@
 -- All who stand in a table die, the one in the last row first, and then the table is without rows.
-use Rattle.std.proofs.Common.{◌≡◌, ◌≢◌, ℕ, zero, suc, ◌+◌, ◌-◌, ◌<◌, ◌≤◌, ◌||◌, ◌++◌, Bool, true, false, IsTrue, IsSome, List, [], ◌∷◌, length, take}
-use Rattle.std.proofs.Common.{drop, set, get_or, slice_get, Option, Some, None, is_some, option_and_then, unwrap_or, refl, sym, ap, subst, ◌∙◌, arith}
-use Rattle.std.proofs.Common.{add-one, inl, inr, true≢false}
-use Rattle.std.specs.List.{swap_remove}
+use Rattle.eco_store.proofs.Common.{◌≡◌, ◌≢◌, ℕ, zero, suc, ◌+◌, ◌-◌, ◌<◌, ◌≤◌, ◌||◌, ◌++◌, Bool, true, false, IsTrue}
+use Rattle.eco_store.proofs.Common.{IsSome, List, [], ◌∷◌, length, take, drop, set, get_or, slice_get, Option, Some, None, is_some, option_and_then}
+use Rattle.eco_store.proofs.Common.{unwrap_or, refl, sym, ap, subst, ◌∙◌, arith, add-one, inl, inr, true≢false, swap_remove, drop-cons}
+use Rattle.eco_store.proofs.Common.{take-append_seam, cases_lt, get_or-set_same, get_or-set_other, get_or_past, get_or-map, get_or-take, length-append}
+use Rattle.eco_store.proofs.Common.{length-map, length-take-le, take-take, take_all, none-some, slice_get-get_or, slice_get_past, Entity, Indexed, is_alive}
+use Rattle.eco_store.proofs.Common.{record_of, with_death, entity_cmp, entity_eq, has_item, living_at, record_at, TableState, TableRow, entities_of, slot_of}
+use Rattle.eco_store.proofs.Common.{table_in, no_row, no_table, SetsSlot, Place, Registration, own_place, row_at, SameRows, after_deaths, with_deaths, rows_in}
+use Rattle.eco_store.proofs.Common.{SetsRows, TakesRow, seat_of, HasPlace, IsStore, read, seat_at}
 use Rattle.std.proofs.Math.ListN.{drop_of_length-le}
-use Rattle.std.proofs.Math.Seq.{drop-cons, take-append_seam}
-use Rattle.std.proofs.lemmas.Bool.{cases_lt}
-use Rattle.std.proofs.lemmas.List.{get_or-set_same, get_or-set_other, get_or_past}
-use Rattle.std.proofs.lemmas.List.{get_or-map, get_or-take, length-append, length-map, length-take-le, take-take, take_all}
-use Rattle.std.proofs.lemmas.Option.{none-some, slice_get-get_or, slice_get_past}
 use Rattle.indexmap.proofs.MapLemmas.{swap_remove_last}
-use Rattle.eco_ids.specs.declared.entity.Entity.{Entity}
-use Rattle.eco_ids.specs.Indices.{Indexed, is_alive, record_of, with_death}
-use Rattle.eco_ids.specs.Order.{entity_cmp, entity_eq, has_item}
-use Rattle.eco_ids.proofs.States.{living_at, record_at}
-use Rattle.eco_tables.specs.Table.{TableState, TableRow, entities_of}
-use Rattle.eco_tables.specs.Tables.{slot_of, table_in, no_row, no_table, SetsSlot}
-use Rattle.eco_entities.specs.declared.place.Place.{Place}
-use Rattle.eco_entities.specs.Registration.{Registration, own_place}
-use Rattle.eco_archetypes.specs.Archetypes.{row_at, SameRows}
-use Rattle.eco_store.specs.Deaths.{after_deaths, with_deaths}
-use Rattle.eco_store.specs.Layout.{rows_in, SetsRows, TakesRow}
-use Rattle.eco_store.specs.Seats.{seat_of}
-use Rattle.eco_store.specs.Store.{HasPlace, IsStore, read, seat_at}
 use Rattle.eco_store.proofs.Dying.{nobody_dies, one_dies}
 use Rattle.eco_store.proofs.StoreChanges.{out_read, out_store, place_from_seat, still_lives, same_read, same_store}
 use Rattle.eco_store.proofs.Values.{alive_same, has_place}

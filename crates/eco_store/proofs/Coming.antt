@@ -1,22 +1,11 @@
 -- Room for the entities that come, and what each of their moves leaves of it.
-use Rattle.std.proofs.Common.{◌≡◌, ◌≢◌, ℕ, ◌+◌, ◌-◌, ◌≤◌, ◌<◌, Bool, true, false, true≢false, IsTrue, if◌then◌else◌, List, [], ◌∷◌, ◌++◌, map, length}
-use Rattle.std.proofs.Common.{get_or, slice_get, drop, Option, Some, None, is_some, option_map, unwrap_or, IsSome, nat_eq, refl, sym, ap, ◌∙◌, arith}
-use Rattle.std.specs.List.{All, list_any}
+use Rattle.eco_store.proofs.Common.{◌≡◌, ◌≢◌, ℕ, ◌+◌, ◌-◌, ◌≤◌, ◌<◌, Bool, true, false, true≢false, IsTrue}
+use Rattle.eco_store.proofs.Common.{if◌then◌else◌, List, [], ◌∷◌, ◌++◌, map, length, get_or, slice_get, drop, Option, Some, None, is_some}
+use Rattle.eco_store.proofs.Common.{option_map, unwrap_or, IsSome, nat_eq, refl, sym, ap, ◌∙◌, arith, All, list_any, length-map, map-append}
+use Rattle.eco_store.proofs.Common.{get_or_default, All-head, All-tail, same_Some, Entity, Id, changed, change_kept, Indexed, is_alive, record_of, not_equal}
+use Rattle.eco_store.proofs.Common.{TableState, slot_of, table_in, no_table, Moves, SetsSlot, type_at, KeepsTypes, moves_types, there_as_typed, Move, arriving}
+use Rattle.eco_store.proofs.Common.{AdmitsRow, AreTyped, HasRoomFor, SameIn}
 use Rattle.std.proofs.Math.ListN.{get_or-map}
-use Rattle.std.proofs.lemmas.List.{length-map, map-append, get_or_default}
-use Rattle.std.proofs.lemmas.List.Elements.{All-head, All-tail}
-use Rattle.std.proofs.lemmas.Option.{same_Some}
-use Rattle.eco_ids.specs.declared.entity.Entity.{Entity}
-use Rattle.eco_ids.specs.declared.id.Id.{Id}
-use Rattle.eco_ids.specs.Indices.{changed, change_kept, Indexed, is_alive, record_of}
-use Rattle.eco_ids.proofs.Lists.{not_equal}
-use Rattle.eco_tables.specs.Table.{TableState}
-use Rattle.eco_tables.specs.Tables.{slot_of, table_in, no_table, Moves, SetsSlot}
-use Rattle.eco_archetypes.specs.Archetypes.{type_at, KeepsTypes}
-use Rattle.eco_archetypes.proofs.ArchetypeLemmas.{moves_types, there_as_typed}
-use Rattle.eco_store.specs.declared.moving.Move.{Move}
-use Rattle.eco_store.specs.Moving.{arriving, AdmitsRow, AreTyped, HasRoomFor}
-use Rattle.eco_store.specs.Staying.{SameIn}
 use Rattle.eco_store.proofs.RowChanges.{is_equal}
 use Rattle.eco_store.proofs.Views.{at_each}
 

@@ -1,28 +1,10 @@
 -- Two entities step, and the table that the second one goes to is taken before the first step.
-use Rattle.std.proofs.Common.{◌≡◌, ◌≢◌, ℕ, ◌+◌, ◌≤◌, Bool, true, false, IsTrue, if◌then◌else◌, List, [], ◌∷◌, slice_get, Option, Some, option_map, unwrap_or}
-use Rattle.std.proofs.Common.{nat_eq, sym, ap, ◌∙◌, arith, Result, Ok, Err, IfOk, OnErr}
-use Rattle.std.specs.Prelude.{MatchBool}
-use Rattle.std.specs.List.{list_any}
-use Rattle.std.proofs.lemmas.List.{set_comm}
-use Rattle.eco_ids.specs.declared.entity.Entity.{Entity}
-use Rattle.eco_ids.specs.declared.id.Id.{Id}
-use Rattle.eco_ids.specs.Indices.{changed, change_kept, is_alive, record_in, record_of, with_record, Indexed, Living}
-use Rattle.eco_ids.proofs.Lists.{slice_get-set_other}
-use Rattle.eco_ids.proofs.States.{living_at, same_parts}
-use Rattle.eco_entities.specs.declared.place.Place.{Place}
-use Rattle.eco_entities.specs.Registration.{Registration, own_place}
-use Rattle.eco_tables.specs.Column.{retyped}
-use Rattle.eco_tables.specs.Table.{TableState}
-use Rattle.eco_tables.specs.Tables.{slot_of, table_in, no_table, AllHaveIds}
-use Rattle.eco_index.specs.Edges.{toggled}
-use Rattle.eco_archetypes.specs.Archetypes.{KeepsRoom, KeepsTypes, MayTakeType, SameSlots}
-use Rattle.eco_archetypes.specs.Widths.{StillCover}
-use Rattle.eco_archetypes.proofs.ArchetypeLemmas.{rows_from_slots}
-use Rattle.eco_store.specs.declared.layout.Layout.{Layout}
-use Rattle.eco_store.specs.Layout.{seen, IsLaid}
-use Rattle.eco_store.specs.Moving.{arriving, AdmitsRow, LeavesRoom}
-use Rattle.eco_store.specs.Staying.{all_staying}
-use Rattle.eco_store.specs.Store.{read, record_ids, stepped, type_in_store, with_toggled}
+use Rattle.eco_store.proofs.Common.{◌≡◌, ◌≢◌, ℕ, ◌+◌, ◌≤◌, Bool, true, false, IsTrue, if◌then◌else◌, List, [], ◌∷◌}
+use Rattle.eco_store.proofs.Common.{slice_get, Option, Some, option_map, unwrap_or, nat_eq, sym, ap, ◌∙◌, arith, Result, Ok, Err, IfOk, OnErr, MatchBool}
+use Rattle.eco_store.proofs.Common.{list_any, set_comm, Entity, Id, changed, change_kept, is_alive, record_in, record_of, with_record, Indexed, Living}
+use Rattle.eco_store.proofs.Common.{slice_get-set_other, living_at, same_parts, Place, Registration, own_place, retyped, TableState, slot_of, table_in}
+use Rattle.eco_store.proofs.Common.{no_table, AllHaveIds, toggled, KeepsRoom, KeepsTypes, MayTakeType, SameSlots, StillCover, rows_from_slots, Layout, seen}
+use Rattle.eco_store.proofs.Common.{IsLaid, arriving, AdmitsRow, LeavesRoom, all_staying, read, record_ids, stepped, type_in_store, with_toggled}
 use Rattle.eco_store.proofs.Laid.{laid_slots}
 use Rattle.eco_store.proofs.Stepping.{leads_to, standing_type}
 use Rattle.eco_store.proofs.StoreChanges.{row_within, same_read}

@@ -1,15 +1,9 @@
 -- Many entities die, one after another.
-use Rattle.std.proofs.Common.{◌≡◌, ◌≢◌, ℕ, zero, suc, ◌+◌, ◌<◌, Bool, true, false, true≢false, ◌||◌, IsTrue, if◌then◌else◌, List, [], ◌∷◌, ◌++◌, drop}
-use Rattle.std.proofs.Common.{take, length, get_or, slice_get, Option, Some, None, option_map, is_some, refl, sym, ap, ◌∙◌, arith}
-use Rattle.std.proofs.lemmas.List.{drop-take, take-append-drop, take-take, take_more}
-use Rattle.std.proofs.lemmas.List.Folds.{list_any-append}
-use Rattle.eco_ids.specs.declared.entity.Entity.{Entity}
-use Rattle.eco_ids.specs.Indices.{Indexed, IndexState, Retired, Free, Living, record_in, is_alive, with_death, map_from, raised}
-use Rattle.eco_ids.specs.Order.{entity_cmp, entity_eq, has_item}
-use Rattle.eco_ids.specs.World.{Record}
-use Rattle.eco_ids.proofs.Overlaps.{entity_eq_is, entity_eq_itself}
-use Rattle.eco_ids.proofs.States.{living_at, record_here}
-use Rattle.eco_store.specs.Deaths.{death_at, after_deaths}
+use Rattle.eco_store.proofs.Common.{◌≡◌, ◌≢◌, ℕ, zero, suc, ◌+◌, ◌<◌, Bool, true, false, true≢false, ◌||◌, IsTrue}
+use Rattle.eco_store.proofs.Common.{if◌then◌else◌, List, [], ◌∷◌, ◌++◌, drop, take, length, get_or, slice_get, Option, Some, None, option_map}
+use Rattle.eco_store.proofs.Common.{is_some, refl, sym, ap, ◌∙◌, arith, drop-take, take-append-drop, take-take, take_more, list_any-append, Entity}
+use Rattle.eco_store.proofs.Common.{Indexed, IndexState, Retired, Free, Living, record_in, is_alive, with_death, map_from, raised, entity_cmp, entity_eq}
+use Rattle.eco_store.proofs.Common.{has_item, Record, entity_eq_is, entity_eq_itself, living_at, record_here, death_at, after_deaths}
 use Rattle.eco_store.proofs.Views.{alike_but, alike_set, alive_record, raised_either}
 
 get_map_from : (f : ℕ → IndexState Record → IndexState Record) (n : ℕ) (xs : List (IndexState Record)) (k : ℕ)

@@ -1,22 +1,10 @@
 -- The types of the tables that a test finds.
-use Rattle.std.proofs.Common.{◌≡◌, ◌≢◌, ℕ, ◌<◌, Bool, true, true≢false, IsSome, ◌↔◌, nat_eq, List, map, length, get_or, Option, None, Some, option_map, refl}
-use Rattle.std.proofs.Common.{sym, ap, ◌∙◌, arith}
-use Rattle.std.specs.List.{All, AllPairs, Contains, IsDistinct, list_any}
-use Rattle.std.proofs.lemmas.Bool.Decides.{Decides-eqb}
-use Rattle.std.proofs.lemmas.List.{get_or-map, length-map}
+use Rattle.eco_store.proofs.Common.{◌≡◌, ◌≢◌, ℕ, ◌<◌, Bool, true, true≢false, IsSome, ◌↔◌, nat_eq, List, map, length, get_or, Option}
+use Rattle.eco_store.proofs.Common.{None, Some, option_map, refl, sym, ap, ◌∙◌, arith, All, AllPairs, Contains, IsDistinct, list_any, Decides-eqb}
+use Rattle.eco_store.proofs.Common.{get_or-map, length-map, Contains-from_any, same_Some, Record, Id, Indexed, record_of, TableState, slot_of, table_in}
+use Rattle.eco_store.proofs.Common.{is_found_by, type_at, IsTypeBy, IsShown, type_there}
 use Rattle.std.proofs.lemmas.Map.Made.{AllPairs-from_IsDistinct}
-use Rattle.std.proofs.lemmas.Map.Views.{Contains-from_any}
-use Rattle.std.proofs.lemmas.Option.{same_Some}
-use Rattle.eco_ids.specs.World.{Record}
-use Rattle.eco_ids.specs.declared.id.Id.{Id}
-use Rattle.eco_ids.specs.Indices.{Indexed, record_of}
-use Rattle.eco_tables.specs.Table.{TableState}
-use Rattle.eco_tables.specs.Tables.{slot_of, table_in}
 use Rattle.eco_index.proofs.Listings.{listed_at}
-use Rattle.eco_archetypes.specs.Archetypes.{is_found_by, type_at}
-use Rattle.eco_store.specs.Retyping.{IsTypeBy}
-use Rattle.eco_store.specs.Store.{IsShown}
-use Rattle.eco_archetypes.proofs.ArchetypeLemmas.{type_there}
 use Rattle.eco_store.proofs.Holders.{found_matches, found_rows, has_found, row_kept, some_kept, first_row}
 
 found_there : (test : List Id → Bool) (o : Option TableState) → is_found_by test o ≡ true → IsSome o

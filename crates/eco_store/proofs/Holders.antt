@@ -1,28 +1,16 @@
 -- Who has ids that pass a test stands in a table whose type does.
-use Rattle.std.proofs.Common.{◌≡◌, ◌≢◌, ℕ, ◌<◌, Bool, true, false, true≢false, ◌&&◌, ◌||◌, IsTrue, ◌↔◌, nat_eq, nat_lt, List, [], ◌∷◌, map, length}
-use Rattle.std.proofs.Common.{get_or, slice_get, Option, Some, None, option_map, unwrap_or, refl, sym, ap, ◌∙◌, subst, arith, inl, inr}
-use Rattle.std.specs.List.{AllByRecursion, Contains, IsDistinct, list_any}
-use Rattle.std.proofs.lemmas.Bool.Decides.{Decides-eqb, nat_tests}
-use Rattle.std.proofs.lemmas.List.{get_or-map, length-map}
-use Rattle.std.proofs.lemmas.List.Elements.{Contains-append_cases, Contains-append_left, Contains-append_right}
-use Rattle.std.proofs.lemmas.Option.{get_or_from_slice_get, none-some, same_Some, slice_get-get_or}
-use Rattle.eco_ids.specs.World.{Record}
-use Rattle.eco_ids.specs.declared.entity.Entity.{Entity}
-use Rattle.eco_ids.specs.declared.id.Id.{Id}
-use Rattle.eco_ids.specs.Indices.{Indexed, living, record_of}
-use Rattle.eco_ids.specs.Order.{entity_cmp, has_item, is_ascending}
-use Rattle.eco_tables.specs.Table.{TableRow, TableState, entities_of}
-use Rattle.eco_tables.specs.Tables.{no_table, slot_of, table_in}
+use Rattle.eco_store.proofs.Common.{◌≡◌, ◌≢◌, ℕ, ◌<◌, Bool, true, false, true≢false, ◌&&◌, ◌||◌, IsTrue, ◌↔◌, nat_eq, nat_lt}
+use Rattle.eco_store.proofs.Common.{List, [], ◌∷◌, map, length, get_or, slice_get, Option, Some, None, option_map, unwrap_or, refl, sym, ap, ◌∙◌}
+use Rattle.eco_store.proofs.Common.{subst, arith, inl, inr, AllByRecursion, Contains, list_any, Decides-eqb, nat_tests, get_or-map, length-map}
+use Rattle.eco_store.proofs.Common.{Contains-append_cases, Contains-append_left, Contains-append_right, get_or_from_slice_get, none-some, same_Some}
+use Rattle.eco_store.proofs.Common.{slice_get-get_or, Record, Entity, Id, Indexed, living, record_of, entity_cmp, has_item, is_ascending, TableRow, TableState}
+use Rattle.eco_store.proofs.Common.{entities_of, no_table, slot_of, table_in, is_found_by, FindsSome, standing_in, row_at, passes, entities_whose, IsShown}
+use Rattle.eco_store.proofs.Common.{first, second, or_right, slice_get_within}
+use Rattle.std.specs.List.{IsDistinct}
 use Rattle.eco_index.proofs.TypeTests.{same_truth}
-use Rattle.eco_archetypes.specs.Archetypes.{is_found_by, FindsSome, standing_in, row_at}
-use Rattle.eco_store.specs.Holders.{passes, entities_whose}
-use Rattle.eco_store.specs.Store.{IsShown}
 use Rattle.eco_ids.proofs.Passing.{PassesOwn, own_from_passed, passed_ascend, passed_from_own, passes_some, some_passes}
-use Rattle.eco_ids.proofs.Ascending.{first, second}
-use Rattle.eco_ids.proofs.Facts.{or_right}
 use Rattle.eco_store.proofs.Sorting.{Apart, apart_append}
 use Rattle.eco_store.proofs.Values.{stands_type}
-use Rattle.std.proofs.lemmas.Option.{slice_get_within}
 
 pub first_row : (rows : List TableRow) → 0 < length rows → (r : TableRow) × (slice_get rows 0 ≡ Some r)
 first_row [] none = absurd (omega arith)

@@ -1,32 +1,17 @@
 -- What a walk over the indices finds is who stands in the tables of some slots.
-use Rattle.std.proofs.Common.{◌≡◌, ◌≢◌, ℕ, zero, suc, ◌+◌, ◌<◌, Bool, true, false, cond, ◌||◌, nat_eq, List, [], ◌∷◌, ◌++◌}
-use Rattle.std.proofs.Common.{map, filter, length, drop, set, slice_get}
-use Rattle.std.proofs.Common.{get_or, Option, Some, option_map, option_to_list, refl, sym, ap, ◌∙◌, subst, arith, add-one, drop-cons, append_assoc, true≢false}
-use Rattle.std.specs.List.{All, AllByRecursion, list_any}
-use Rattle.std.proofs.lemmas.Bool.Decides.{Decides-eqb}
-use Rattle.std.proofs.lemmas.List.{get_or-set_other, get_or-set_same}
-use Rattle.std.proofs.lemmas.List.Elements.{All-from_recursion}
-use Rattle.std.proofs.lemmas.Map.Views.{Contains-from_any}
-use Rattle.std.proofs.lemmas.Option.{get_or_from_slice_get, slice_get-get_or, slice_get_within}
-use Rattle.eco_ids.specs.World.{Record}
-use Rattle.eco_ids.specs.declared.entity.Entity.{Entity}
-use Rattle.eco_ids.specs.declared.id.Id.{Id}
-use Rattle.eco_ids.specs.Indices.{Indexed, IndexState, Retired, Free, Living, living_from, map_state, record_of}
-use Rattle.eco_tables.specs.Table.{TableState}
-use Rattle.eco_tables.specs.Tables.{AllHaveIds, slot_of, table_in}
-use Rattle.eco_entities.specs.declared.place.Place.{Place}
-use Rattle.eco_entities.specs.Registration.{Registration}
-use Rattle.eco_archetypes.specs.Archetypes.{IsAllFound, row_at}
-use Rattle.eco_store.specs.Holders.{entities_whose, passes}
-use Rattle.eco_store.specs.Ranking.{IsNumbering, slot_number, standing_by, standing_from, standing_of, StandsIn}
-use Rattle.eco_store.specs.Store.{HasPlace, IsStore, read, record_for, record_ids, seat_at, seat_in, seat_of_place, type_in_store}
-use Rattle.eco_store.specs.declared.standing.Standing.{Standing}
+use Rattle.eco_store.proofs.Common.{◌≡◌, ◌≢◌, ℕ, zero, suc, ◌+◌, ◌<◌, Bool, true, false, cond, ◌||◌, nat_eq, List, [], ◌∷◌}
+use Rattle.eco_store.proofs.Common.{◌++◌, map, filter, length, drop, set, slice_get, get_or, Option, Some, option_map, option_to_list, refl, sym, ap}
+use Rattle.eco_store.proofs.Common.{◌∙◌, subst, arith, add-one, append_assoc, true≢false, All, AllByRecursion, list_any, Decides-eqb, get_or-set_other}
+use Rattle.eco_store.proofs.Common.{get_or-set_same, All-from_recursion, Contains-from_any, get_or_from_slice_get, slice_get-get_or, slice_get_within, Record}
+use Rattle.eco_store.proofs.Common.{Entity, Id, Indexed, IndexState, Retired, Free, Living, living_from, map_state, record_of, TableState, AllHaveIds, slot_of}
+use Rattle.eco_store.proofs.Common.{table_in, Place, Registration, IsAllFound, row_at, entities_whose, passes, IsNumbering, slot_number, standing_by}
+use Rattle.eco_store.proofs.Common.{standing_from, standing_of, StandsIn, HasPlace, IsStore, read, record_for, record_ids, seat_at, seat_in, seat_of_place}
+use Rattle.eco_store.proofs.Common.{type_in_store, Standing, or_right, record_at}
+use Rattle.std.proofs.Common.{drop-cons}
 use Rattle.eco_store.proofs.Holders.{found_matches, is_found_there, row_kept}
 use Rattle.eco_store.proofs.SeatChanges.{one_some}
 use Rattle.eco_store.proofs.StoreChanges.{read_record}
 use Rattle.eco_store.proofs.Values.{has_place, shows}
-use Rattle.eco_ids.proofs.Facts.{or_right}
-use Rattle.eco_ids.proofs.States.{record_at}
 
 -- ---- numbers
 

@@ -1,25 +1,10 @@
 -- The parts of a layout agree after a step of a call, and what is seen of it.
-use Rattle.std.proofs.Common.{◌≡◌, ℕ, List, [], ◌∷◌, IsTrue, Option, None, is_some, unwrap_or, nat_eq, slice_get, refl, sym, ap, subst, ◌∙◌, true≢false}
-use Rattle.std.proofs.Common.{Result, Ok, Err, OnOk, OnErr, MatchResult, Some, length}
-use Rattle.std.proofs.lemmas.Option.{none-some}
-use Rattle.std.specs.List.{list_any}
-use Rattle.eco_ids.specs.declared.entity.Entity.{Entity}
-use Rattle.eco_ids.specs.declared.id.Id.{Id}
-use Rattle.eco_ids.specs.Indices.{Indexed, changed}
-use Rattle.eco_ids.specs.World.{Record}
-use Rattle.eco_ids.proofs.Results.{on_ok, on_err}
-use Rattle.eco_tables.specs.Table.{TableState, width_in}
-use Rattle.eco_tables.specs.Tables.{new_row, no_table, rowless_type, slot_of, table_in, with_row, SetsSlot}
-use Rattle.eco_entities.specs.Needs.{need}
-use Rattle.eco_entities.specs.Registration.{Registration}
-use Rattle.eco_entities.specs.declared.place.Place.{Place}
-use Rattle.eco_archetypes.specs.Archetypes.{type_at, RowlessBut, RowlessIn, SameRows, SameSlots}
-use Rattle.eco_archetypes.specs.Widths.{MeetsNeeds, StillCover}
-use Rattle.eco_archetypes.proofs.ArchetypeLemmas.{rows_from_slots, then_rows, typed_table}
-use Rattle.eco_store.specs.declared.layout.Layout.{Layout}
-use Rattle.eco_store.specs.Layout.{rows_in, seen, Carries, IsLaid, IsLaidBeside, IsLaidBut, IsSettled, Plans, PutsRow}
-use Rattle.eco_store.specs.Staying.{StayingState, all_staying, only_idle, with_target}
-use Rattle.eco_store.specs.Store.{HasPlace, IsStore, read, seat_in, with_type}
+use Rattle.eco_store.proofs.Common.{◌≡◌, ℕ, List, [], ◌∷◌, IsTrue, Option, None, is_some, unwrap_or, nat_eq, slice_get, refl, sym, ap, subst}
+use Rattle.eco_store.proofs.Common.{◌∙◌, true≢false, Result, Ok, Err, OnOk, OnErr, MatchResult, Some, length, none-some, list_any, Entity, Id, Indexed}
+use Rattle.eco_store.proofs.Common.{changed, Record, on_ok, on_err, TableState, width_in, new_row, no_table, rowless_type, slot_of, table_in, with_row}
+use Rattle.eco_store.proofs.Common.{SetsSlot, need, Registration, Place, type_at, RowlessBut, RowlessIn, SameRows, SameSlots, MeetsNeeds, StillCover}
+use Rattle.eco_store.proofs.Common.{rows_from_slots, then_rows, typed_table, Layout, rows_in, seen, Carries, IsLaid, IsLaidBeside, IsLaidBut, IsSettled, Plans}
+use Rattle.eco_store.proofs.Common.{PutsRow, StayingState, all_staying, only_idle, with_target, HasPlace, IsStore, read, seat_in, with_type}
 use Rattle.eco_store.proofs.Coming.{admits_none}
 use Rattle.eco_store.proofs.LaidRows.{row_puts, rows_alike}
 use Rattle.eco_store.proofs.Rowless.{rowless_filled, rowless_targeted}

@@ -1,12 +1,7 @@
 -- The rows of a layout's tables after some of them came, went or moved.
-use Rattle.std.proofs.Common.{◌≡◌, ◌≢◌, ℕ, List, [], ◌∷◌, ◌++◌, length, slice_get, Option, Some, unwrap_or, refl, sym, ap, subst, ◌∙◌}
-use Rattle.eco_ids.specs.declared.entity.Entity.{Entity}
-use Rattle.eco_ids.specs.declared.id.Id.{Id}
-use Rattle.eco_tables.specs.Table.{TableState, retyped_row, entities_of}
-use Rattle.eco_tables.specs.Tables.{table_in, row_in, no_table, new_row, SetsSlot, Moves, with_row, without_row}
-use Rattle.eco_entities.specs.declared.place.Place.{Place}
-use Rattle.eco_archetypes.specs.Archetypes.{SameRows}
-use Rattle.eco_store.specs.Layout.{rows_in, SetsRows, PutsRow, TakesRow, MovesRow}
+use Rattle.eco_store.proofs.Common.{◌≡◌, ◌≢◌, ℕ, List, [], ◌∷◌, ◌++◌, length, slice_get, Option, Some, unwrap_or, refl, sym, ap, subst}
+use Rattle.eco_store.proofs.Common.{◌∙◌, Entity, Id, TableState, retyped_row, entities_of, table_in, row_in, no_table, new_row, SetsSlot, Moves, with_row}
+use Rattle.eco_store.proofs.Common.{without_row, Place, SameRows, rows_in, SetsRows, PutsRow, TakesRow, MovesRow}
 use Rattle.eco_store.proofs.Pouring.{rows_same}
 
 -- the rows of all tables, as one function

@@ -1,15 +1,7 @@
 -- What is data has fields in each table whose type has it.
-use Rattle.std.proofs.Common.{◌≡◌, ◌≤◌, ℕ, List, Option, Some, arith, subst, unwrap_or}
-use Rattle.eco_ids.specs.declared.id.Id.{Id}
-use Rattle.eco_ids.specs.Indices.{Indexed}
-use Rattle.eco_entities.specs.Needs.{fields_for, need}
-use Rattle.eco_entities.specs.Registration.{Registration}
-use Rattle.eco_tables.specs.Table.{TableState}
-use Rattle.eco_tables.specs.Tables.{AllHaveIds, no_table, slot_of}
-use Rattle.eco_archetypes.specs.Archetypes.{type_at}
-use Rattle.eco_archetypes.specs.Widths.{MeetsNeeds}
+use Rattle.eco_store.proofs.Common.{◌≡◌, ◌≤◌, ℕ, List, Option, Some, arith, subst, unwrap_or, Id, Indexed, fields_for, need, Registration}
+use Rattle.eco_store.proofs.Common.{TableState, AllHaveIds, no_table, slot_of, type_at, MeetsNeeds, arity_in_store, read, IsStore}
 use Rattle.eco_store.specs.Lent.{AreTablesOf, KeepData, KeepsData}
-use Rattle.eco_store.specs.Store.{arity_in_store, read, IsStore}
 use Rattle.eco_store.proofs.Needing.{needed}
 use Rattle.eco_store.proofs.Values.{shows}
 

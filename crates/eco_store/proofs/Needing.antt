@@ -1,31 +1,13 @@
 -- The arity of an id, as the store shows it, is no more than the tables keep.
-use Rattle.std.proofs.Common.{◌≡◌, ◌≤◌, ◌==◌, ◌&&◌, ℕ, Bool, true, false, cond, IsTrue, List, Option, None, Some, unwrap_or, option_map, option_and_then}
-use Rattle.std.proofs.Common.{if◌then◌else◌, refl, sym, ap, ◌∙◌, subst, arith, slice_get, is_some, nat_lt, MatchBool, Result}
-use Rattle.std.specs.Option.{option_or}
-use Rattle.std.proofs.lemmas.Option.{slice_get-map}
-use Rattle.eco_ids.specs.Births.{Admits, may_admit}
-use Rattle.eco_ids.specs.Indices.{Indexed, IndexState, Retired, Free, Living, changed, change_kept, map_state, record_in, record_of}
-use Rattle.eco_ids.specs.Outcome.{Meets, is_out_of_memory}
-use Rattle.eco_ids.specs.World.{Record}
-use Rattle.eco_ids.specs.declared.entity.Entity.{Entity}
-use Rattle.eco_ids.specs.declared.id.Id.{Id}
+use Rattle.eco_store.proofs.Common.{◌≡◌, ◌≤◌, ◌==◌, ◌&&◌, ℕ, Bool, true, false, cond, IsTrue, List, Option, None, Some, unwrap_or}
+use Rattle.eco_store.proofs.Common.{option_map, option_and_then, if◌then◌else◌, refl, sym, ap, ◌∙◌, subst, arith, slice_get, is_some, nat_lt}
+use Rattle.eco_store.proofs.Common.{MatchBool, Result, option_or, slice_get-map, Admits, may_admit, Indexed, IndexState, Retired, Free, Living, changed}
+use Rattle.eco_store.proofs.Common.{change_kept, map_state, record_in, record_of, Meets, is_out_of_memory, Record, Entity, Id, Refusal, Value, first, Place}
+use Rattle.eco_store.proofs.Common.{fields_for, need, need_in, need_of, NeedsNeverGrow, Registration, placed, Call, SetPlace, LeadsTo, fixed, TableState}
+use Rattle.eco_store.proofs.Common.{row_at, Transfer, placed_after, with_places, arity_in_store, fits_in_store, own_arity_in_store, read, record_for}
+use Rattle.eco_store.proofs.Common.{MeetsNeeds, FitsIn, lowered, zero_later}
 use Rattle.eco_ids.specs.declared.id.Id.TheVariants.{One, Two}
-use Rattle.eco_ids.specs.declared.refusal.Refusal.{Refusal}
-use Rattle.eco_ids.specs.declared.value.Value.{Value}
 use Rattle.eco_ids.specs.declared.value.TheConstants.{FIELD_COUNT}
-use Rattle.eco_ids.proofs.Ascending.{first}
-use Rattle.eco_entities.specs.declared.place.Place.{Place}
-use Rattle.eco_entities.specs.Needs.{fields_for, need, need_in, need_of, NeedsNeverGrow}
-use Rattle.eco_entities.specs.Registration.{Registration, placed}
-use Rattle.eco_entities.specs.Runs.{Call, SetPlace, LeadsTo}
-use Rattle.eco_store.specs.Placing.{fixed}
-use Rattle.eco_tables.specs.Table.{TableState}
-use Rattle.eco_archetypes.specs.Archetypes.{row_at}
-use Rattle.eco_store.specs.declared.transfer.Transfer.{Transfer}
-use Rattle.eco_store.specs.Transfers.{placed_after, with_places}
-use Rattle.eco_store.specs.Store.{arity_in_store, fits_in_store, own_arity_in_store, read, record_for}
-use Rattle.eco_archetypes.specs.Widths.{MeetsNeeds, FitsIn}
-use Rattle.eco_archetypes.proofs.Widths.{lowered, zero_later}
 
 own_needed : (w : Indexed Registration) (s : List (Option TableState)) (e : Entity) → fields_for (own_arity_in_store (read w s) e) ≤ need_of w e
 own_needed w s e = rw (slice_get-map (map_state (record_for (row_at s))) w.indices e.index) (by (slice_get w.indices e.index))

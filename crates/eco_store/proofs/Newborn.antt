@@ -1,18 +1,12 @@
 -- A new entity: what is known of the indices, and what a store shows of them.
-use Rattle.std.proofs.Common.{◌≡◌, ◌≢◌, ℕ, suc, ◌<◌, ◌≤◌, ◌+◌, Bool, true, false, not, ◌&&◌, nat_lt, List, [], ◌∷◌, ◌++◌, map, length, slice_get, Option}
-use Rattle.std.proofs.Common.{Some, None, option_map, is_some, IsTrue, if◌then◌else◌, find, Result, Ok, Err, MatchBool, MatchOption, refl, sym, ap, subst, ◌∙◌}
-use Rattle.std.proofs.Common.{arith}
-use Rattle.std.specs.Option.{option_or}
-use Rattle.std.proofs.lemmas.List.{length-map}
-use Rattle.std.proofs.lemmas.Bool.Decides.{nat_tests}
-use Rattle.eco_ids.specs.declared.entity.Entity.{Entity}
-use Rattle.eco_ids.specs.declared.refusal.Refusal.{Refusal}
-use Rattle.eco_ids.specs.Births.{unfit_name, Makes, may_make}
-use Rattle.eco_ids.specs.Indices.{Indexed, IndexState, Retired, Free, Living, with_record, with_new, next_entity, lowest_free, living_from, map_state}
-use Rattle.eco_ids.specs.declared.refusal.Refusal.TheVariants.{BadName, NameTaken, NoMoreIds, OutOfMemory}
+use Rattle.eco_store.proofs.Common.{◌≡◌, ◌≢◌, ℕ, suc, ◌<◌, ◌≤◌, ◌+◌, Bool, true, false, not, ◌&&◌, nat_lt, List, [], ◌∷◌}
+use Rattle.eco_store.proofs.Common.{◌++◌, map, length, slice_get, Option, Some, None, option_map, is_some, IsTrue, if◌then◌else◌, Result, Ok, Err}
+use Rattle.eco_store.proofs.Common.{MatchBool, MatchOption, refl, sym, ap, subst, ◌∙◌, arith, option_or, length-map, nat_tests, Entity, Refusal}
+use Rattle.eco_store.proofs.Common.{unfit_name, Makes, may_make, Indexed, IndexState, Retired, Free, Living, with_record, with_new, next_entity, lowest_free}
+use Rattle.eco_store.proofs.Common.{living_from, map_state, BadName, NameTaken, NoMoreIds, OutOfMemory, first_refusal, Meets, is_out_of_memory, Refuses}
+use Rattle.eco_store.proofs.Common.{Answers, slice_get-push_last, slice_get-push_other, slice_get-set_same, slice_get-set_other}
+use Rattle.std.proofs.Common.{find}
 use Rattle.eco_ids.specs.Names.{is_called, named_entity, is_borne, is_proper}
-use Rattle.eco_ids.specs.Outcome.{first_refusal, Meets, is_out_of_memory, Refuses, Answers}
-use Rattle.eco_ids.proofs.Lists.{slice_get-push_last, slice_get-push_other, slice_get-set_same, slice_get-set_other}
 
 -- nobody lives there
 abbrev pub Vacant : {A : Type 0} → Option (IndexState A) → Type 0

@@ -1,15 +1,6 @@
 -- An entity stands where its place says, and nowhere else.
-use Rattle.std.proofs.Common.{◌≡◌, ◌≢◌, ℕ, List, Option, Some, None, IfNone, option_and_then, sym, ap, subst, ◌∙◌}
-use Rattle.std.proofs.lemmas.Option.{none-some}
-use Rattle.eco_ids.specs.declared.entity.Entity.{Entity}
-use Rattle.eco_ids.specs.Indices.{Indexed}
-use Rattle.eco_tables.specs.Table.{TableRow, TableState}
-use Rattle.eco_entities.specs.declared.place.Place.{Place}
-use Rattle.eco_entities.specs.Registration.{Registration, own_place}
-use Rattle.eco_archetypes.specs.Archetypes.{row_at}
-use Rattle.eco_store.specs.Seats.{Seat, seat_of}
-use Rattle.eco_store.specs.Store.{IsStore, seat_at}
-use Rattle.eco_ids.proofs.States.{record_at}
+use Rattle.eco_store.proofs.Common.{◌≡◌, ◌≢◌, ℕ, List, Option, Some, None, IfNone, option_and_then, sym, ap, subst, ◌∙◌, none-some, Entity}
+use Rattle.eco_store.proofs.Common.{Indexed, TableRow, TableState, Place, Registration, own_place, row_at, Seat, seat_of, IsStore, seat_at, record_at}
 use Rattle.eco_store.proofs.SeatChanges.{one_some}
 use Rattle.eco_store.proofs.StoreChanges.{place_from_seat, seat_there}
 

@@ -1,19 +1,10 @@
 -- Tables, their types and their room while all rows of some go to others.
-use Rattle.std.proofs.Common.{◌≡◌, ◌≢◌, ℕ, ◌+◌, ◌≤◌, ◌<◌, ◌==◌, Bool, true, false, if◌then◌else◌, List, [], ◌∷◌, ◌++◌, map, length, get_or, Option, Some, None}
-use Rattle.std.proofs.Common.{option_map, unwrap_or, is_some, IsSome, refl, sym, ap, ◌∙◌, arith}
-use Rattle.std.specs.List.{All}
+use Rattle.eco_store.proofs.Common.{◌≡◌, ◌≢◌, ℕ, ◌+◌, ◌≤◌, ◌<◌, ◌==◌, Bool, true, false, if◌then◌else◌, List, []}
+use Rattle.eco_store.proofs.Common.{◌∷◌, ◌++◌, map, length, get_or, Option, Some, None, option_map, unwrap_or, is_some, IsSome, refl, sym, ap}
+use Rattle.eco_store.proofs.Common.{◌∙◌, arith, All, length-map, map-append, All-head, All-nil, All-tail, All-push, TableState, slot_of, table_in}
+use Rattle.eco_store.proofs.Common.{no_table, SetsSlot, not_equal, type_there, there_by_type, there_as_typed, Transfer, TypeChange, type_at, KeepsTypes}
+use Rattle.eco_store.proofs.Common.{SameRows, IsOneWay, change_of, IsPlan, due, HasRoom, Pours}
 use Rattle.std.proofs.Math.ListN.{get_or-map}
-use Rattle.std.proofs.lemmas.List.{length-map, map-append}
-use Rattle.std.proofs.lemmas.List.Elements.{All-head, All-nil, All-tail, All-push}
-use Rattle.eco_tables.specs.Table.{TableState}
-use Rattle.eco_tables.specs.Tables.{slot_of, table_in, no_table, SetsSlot}
-use Rattle.eco_ids.proofs.Lists.{not_equal}
-use Rattle.eco_archetypes.proofs.ArchetypeLemmas.{type_there, there_by_type, there_as_typed}
-use Rattle.eco_store.specs.declared.transfer.Transfer.{Transfer}
-use Rattle.eco_store.specs.declared.type_change.TypeChange.{TypeChange}
-use Rattle.eco_archetypes.specs.Archetypes.{type_at, KeepsTypes, SameRows}
-use Rattle.eco_store.specs.Retyping.{IsOneWay}
-use Rattle.eco_store.specs.Transfers.{change_of, IsPlan, due, HasRoom, Pours}
 use Rattle.eco_store.proofs.RowChanges.{is_equal}
 use Rattle.eco_store.proofs.Views.{at_each, ext_slice_get}
 

@@ -1,26 +1,12 @@
 -- Who stands in the tables that a test finds, by entity, are those who pass.
-use Rattle.std.proofs.Common.{◌≡◌, ℕ, suc, ◌+◌, ◌<◌, Bool, true, nat_eq, List, [], ◌∷◌, ◌++◌, map, length, drop, slice_get, get_or, Option, Some}
-use Rattle.std.proofs.Common.{refl, sym, ap, ◌∙◌, subst, arith, is_lt, add-one, drop-cons, append_assoc, option_map}
+use Rattle.eco_store.proofs.Common.{◌≡◌, ℕ, suc, ◌+◌, ◌<◌, Bool, true, nat_eq, List, [], ◌∷◌, ◌++◌, map, length, drop, slice_get}
+use Rattle.eco_store.proofs.Common.{get_or, Option, Some, refl, sym, ap, ◌∙◌, subst, arith, is_lt, add-one, append_assoc, option_map, All, AllByRecursion}
+use Rattle.eco_store.proofs.Common.{IsDistinct, list_any, IsPermutation, IsSorted, IsSortedByKey, IsTotalOrder, IsAntisymmetric, get_or-map, length-map}
+use Rattle.eco_store.proofs.Common.{map-append, All-from_recursion, All-permutation, IsPermutation-map, Record, Entity, Id, Indexed, entity_cmp}
+use Rattle.eco_store.proofs.Common.{AscendingAreSets, TableRow, TableState, entities_of, slot_of, table_in, is_found_by, standing_in, entities_whose, in_first}
+use Rattle.eco_store.proofs.Common.{standings, StandsIn, IsShown, record_ids, Standing}
+use Rattle.std.proofs.Common.{drop-cons}
 use Rattle.std.specs.Prelude.{slice_index_or}
-use Rattle.std.specs.List.{All, AllByRecursion, IsDistinct, list_any}
-use Rattle.std.specs.List.Sorted.{IsPermutation, IsSorted, IsSortedByKey}
-use Rattle.std.specs.Cmp.{IsTotalOrder}
-use Rattle.std.specs.FinMap.{IsAntisymmetric}
-use Rattle.std.proofs.lemmas.List.{get_or-map, length-map, map-append}
-use Rattle.std.proofs.lemmas.List.Elements.{All-from_recursion}
-use Rattle.std.proofs.lemmas.List.Sorted.{All-permutation, IsPermutation-map}
-use Rattle.eco_ids.specs.World.{Record}
-use Rattle.eco_ids.specs.declared.entity.Entity.{Entity}
-use Rattle.eco_ids.specs.declared.id.Id.{Id}
-use Rattle.eco_ids.specs.Indices.{Indexed}
-use Rattle.eco_ids.specs.Order.{entity_cmp, AscendingAreSets}
-use Rattle.eco_tables.specs.Table.{TableRow, TableState, entities_of}
-use Rattle.eco_tables.specs.Tables.{slot_of, table_in}
-use Rattle.eco_archetypes.specs.Archetypes.{is_found_by, standing_in}
-use Rattle.eco_store.specs.Holders.{entities_whose}
-use Rattle.eco_store.specs.Ranking.{in_first, standings, StandsIn}
-use Rattle.eco_store.specs.Store.{IsShown, record_ids}
-use Rattle.eco_store.specs.declared.standing.Standing.{Standing}
 use Rattle.eco_store.proofs.Holders.{found_matches, row_kept, standing_apart, standing_whose, whose_ascend}
 use Rattle.eco_store.proofs.Sorting.{sorted_is}
 

@@ -1,13 +1,6 @@
 -- All entities of a type get another.
-use Rattle.std.proofs.Common.{◌≡◌, ◌≢◌, Bool, true, false, if◌then◌else◌}
-use Rattle.std.proofs.Common.{refl, ap}
-use Rattle.eco_ids.specs.World.{Record}
-use Rattle.eco_tables.specs.Column.{retyped}
-use Rattle.eco_index.specs.TypeMap.{same_ids}
-use Rattle.eco_store.specs.declared.type_change.TypeChange.{TypeChange}
-use Rattle.eco_store.specs.Retyping.{changed_record}
-use Rattle.eco_store.specs.Store.{record_ids}
-use Rattle.eco_ids.proofs.SameIds.{same_ids-Decides}
+use Rattle.eco_store.proofs.Common.{◌≡◌, ◌≢◌, Bool, true, false, if◌then◌else◌, refl, ap, Record, retyped, same_ids, TypeChange}
+use Rattle.eco_store.proofs.Common.{changed_record, record_ids, same_ids-Decides}
 
 -- who has another type than the one that goes
 pub other_type : (c : TypeChange) (k : Record) → record_ids k ≢ c.from → changed_record c k ≡ k

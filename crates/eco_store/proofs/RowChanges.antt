@@ -1,18 +1,8 @@
 -- A moved row is a row taken out of one table and put at the end of another.
-use Rattle.std.proofs.Common.{◌≡◌, ◌≢◌, ℕ, ◌-◌, ◌<◌, ◌==◌, Bool, true, false, cond, List, [], ◌∷◌, ◌++◌, length, slice_get, Option, Some, None, refl, sym, ap}
-use Rattle.std.proofs.Common.{◌∙◌, arith, inl, inr}
-use Rattle.std.specs.List.{swap_remove}
-use Rattle.std.proofs.lemmas.Bool.{cases_eq, cases_lt}
-use Rattle.std.proofs.lemmas.Bool.Decides.{Decides-eqb}
-use Rattle.std.proofs.lemmas.Option.{slice_get_past, slice_get-get_or}
-use Rattle.eco_tables.specs.Table.{TableState, TableRow, retyped_row}
-use Rattle.eco_tables.specs.Tables.{row_in, no_row}
-use Rattle.eco_ids.specs.declared.entity.Entity.{Entity}
-use Rattle.eco_ids.specs.declared.id.Id.{Id}
-use Rattle.eco_entities.specs.declared.place.Place.{Place}
-use Rattle.eco_store.specs.Layout.{rows_in, MovesRow}
-use Rattle.eco_ids.proofs.Lists.{slice_get-push_last, slice_get-push_other, get_or-swap_remove, length-swap_remove, before, not_equal}
-use Rattle.eco_archetypes.specs.Archetypes.{row_at}
+use Rattle.eco_store.proofs.Common.{◌≡◌, ◌≢◌, ℕ, ◌-◌, ◌<◌, ◌==◌, Bool, true, false, cond, List, [], ◌∷◌, ◌++◌, length}
+use Rattle.eco_store.proofs.Common.{slice_get, Option, Some, None, refl, sym, ap, ◌∙◌, arith, inl, inr, swap_remove, cases_eq, cases_lt, Decides-eqb}
+use Rattle.eco_store.proofs.Common.{slice_get_past, slice_get-get_or, TableState, TableRow, retyped_row, row_in, no_row, Entity, Id, Place, rows_in, MovesRow}
+use Rattle.eco_store.proofs.Common.{slice_get-push_last, slice_get-push_other, get_or-swap_remove, length-swap_remove, before, not_equal, row_at}
 use Rattle.eco_store.proofs.SeatChanges.{Removed, Pushed}
 
 pub is_equal : (j k : ℕ) → j ≡ k → (j == k) ≡ true

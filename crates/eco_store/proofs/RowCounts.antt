@@ -1,16 +1,9 @@
 -- A table has no more rows than there are indices, since rows and places name each other.
-use Rattle.std.proofs.Common.{◌≡◌, ℕ, ◌<◌, ◌≤◌, [], Option, Some, None, List, length, get_or, slice_get, sym, ap, ◌∙◌, arith}
-use Rattle.std.proofs.lemmas.Option.{none-some, same_Some, slice_get-get_or, slice_get_within}
+use Rattle.eco_store.proofs.Common.{◌≡◌, ℕ, ◌<◌, ◌≤◌, [], Option, Some, None, List, length, get_or, slice_get, sym, ap, ◌∙◌, arith}
+use Rattle.eco_store.proofs.Common.{none-some, same_Some, slice_get-get_or, slice_get_within, Entity, Indexed, IndexState, Place, Registration, own_place}
+use Rattle.eco_store.proofs.Common.{TableState, TableRow, table_in, Seat, seat_of, IsStore, seat_at, seat_in}
 use Rattle.indexmap.proofs.IndexTableLemmas.Probe.{pigeonhole}
-use Rattle.eco_ids.specs.declared.entity.Entity.{Entity}
-use Rattle.eco_ids.specs.Indices.{Indexed, IndexState}
-use Rattle.eco_entities.specs.declared.place.Place.{Place}
-use Rattle.eco_entities.specs.Registration.{Registration, own_place}
 use Rattle.eco_entities.specs.Rules.{IsRuled}
-use Rattle.eco_tables.specs.Table.{TableState, TableRow}
-use Rattle.eco_tables.specs.Tables.{table_in}
-use Rattle.eco_store.specs.Seats.{Seat, seat_of}
-use Rattle.eco_store.specs.Store.{IsStore, seat_at, seat_in}
 use Rattle.eco_store.proofs.StoreChanges.{row_within}
 
 seat_known : (o : Option (IndexState Registration)) (s : Seat) → seat_in o ≡ Some s → (x : IndexState Registration) × (o ≡ Some x)

@@ -1,21 +1,10 @@
 -- Which tables are without rows, after rows came and went.
-use Rattle.std.proofs.Common.{◌≡◌, ◌≢◌, ℕ, Bool, true, false, ◌||◌, IsTrue, List, [], ◌∷◌, ◌++◌, length, Option, Some, None, unwrap_or, IsSome}
-use Rattle.std.proofs.Common.{zero, suc, is_some, nat_eq, slice_get, slice_set, refl, sym, ap, subst, ◌∙◌, arith, inl, inr}
-use Rattle.std.specs.List.{list_any}
-use Rattle.std.proofs.lemmas.Bool.{cases_eq}
-use Rattle.std.proofs.lemmas.List.{length-append}
-use Rattle.eco_tables.specs.Table.{TableState, TableRow}
-use Rattle.eco_tables.specs.Tables.{slot_of, table_in, no_table, rowless, rowless_type, SetsSlot, Moves, with_row}
-use Rattle.eco_ids.proofs.Lists.{not_equal}
-use Rattle.eco_archetypes.specs.Archetypes.{is_rowless, RowlessIn, SameRows, SameTypes}
-use Rattle.eco_store.specs.declared.transfer.Transfer.{Transfer}
-use Rattle.eco_store.specs.Transfers.{IsNamed, Pours}
-use Rattle.eco_store.specs.Staying.{StayingState, all_staying, with_gathered, with_target}
-use Rattle.eco_ids.proofs.Facts.{or_right}
-use Rattle.eco_archetypes.proofs.ArchetypeLemmas.{type_there, there_as_typed}
+use Rattle.eco_store.proofs.Common.{◌≡◌, ◌≢◌, ℕ, Bool, true, false, ◌||◌, IsTrue, List, [], ◌∷◌, ◌++◌, length, Option, Some, None}
+use Rattle.eco_store.proofs.Common.{unwrap_or, IsSome, zero, suc, is_some, nat_eq, slice_get, slice_set, refl, sym, ap, subst, ◌∙◌, arith, inl, inr}
+use Rattle.eco_store.proofs.Common.{list_any, cases_eq, length-append, TableState, TableRow, slot_of, table_in, no_table, rowless, rowless_type, SetsSlot}
+use Rattle.eco_store.proofs.Common.{Moves, with_row, not_equal, is_rowless, RowlessIn, SameRows, SameTypes, Transfer, IsNamed, Pours, StayingState, all_staying}
+use Rattle.eco_store.proofs.Common.{with_gathered, with_target, or_right, type_there, there_as_typed, list_any-append, same_Some}
 use Rattle.eco_store.proofs.Targets.{is_targeted, still_targeted}
-use Rattle.std.proofs.lemmas.List.Folds.{list_any-append}
-use Rattle.std.proofs.lemmas.Option.{same_Some}
 use Rattle.eco_store.proofs.Pouring.{rows_same}
 use Rattle.eco_store.proofs.RowChanges.{is_equal}
 use Rattle.eco_store.proofs.Views.{at_each}

@@ -1,9 +1,7 @@
 -- What a row taken out and a row put in leave of the seats.
-use Rattle.std.proofs.Common.{◌≡◌, ◌≢◌, ℕ, Option, Some, None, option_map, refl, sym, ap, subst, ◌∙◌, inl, inr}
-use Rattle.std.proofs.lemmas.Bool.{cases_eq}
-use Rattle.eco_ids.specs.declared.entity.Entity.{Entity}
-use Rattle.eco_tables.specs.Table.{TableRow}
-use Rattle.eco_store.specs.Seats.{Seat, IsSeated, seated_entity, seat_of, held_of, seen}
+use Rattle.eco_store.proofs.Common.{◌≡◌, ◌≢◌, ℕ, Option, Some, None, option_map, refl, sym, ap, subst, ◌∙◌, inl, inr, cases_eq, Entity}
+use Rattle.eco_store.proofs.Common.{TableRow, Seat, IsSeated, seated_entity, seat_of, held_of}
+use Rattle.eco_store.specs.Seats.{seen}
 
 -- the row of the table f went; the last one, m, took its place
 pub record Removed (E E' : ℕ → ℕ → Option TableRow) (f row last : ℕ) : Type 0 where

@@ -1,22 +1,14 @@
 -- A sorted list in which nothing comes twice ascends, and its members are those of the list that was sorted.
-use Rattle.std.proofs.Common.{◌≡◌, ◌≢◌, ℕ, zero, suc, ◌<◌, Bool, true, false, true≢false, ◌||◌, IsTrue, ◌↔◌, is_lt, is_eq, List, [], ◌∷◌, ◌++◌, length, get_or}
-use Rattle.std.proofs.Common.{refl, sym, ap, ◌∙◌, subst, arith, suc-add, Ordering, Less, Equal, Greater, inl, inr, Result, Ok, Err, IfOk}
+use Rattle.eco_store.proofs.Common.{◌≡◌, ◌≢◌, ℕ, zero, suc, ◌<◌, Bool, true, false, true≢false, ◌||◌, IsTrue, ◌↔◌, is_lt, is_eq}
+use Rattle.eco_store.proofs.Common.{List, [], ◌∷◌, ◌++◌, length, get_or, refl, sym, ap, ◌∙◌, subst, arith, suc-add, Ordering, Less, Equal}
+use Rattle.eco_store.proofs.Common.{Greater, inl, inr, Result, Ok, Err, IfOk, IsTotalOrder, IsAntisymmetric, All, AllPairs, Contains, list_all, IsPermutation}
+use Rattle.eco_store.proofs.Common.{IsSorted, eq_by_cmp, ordering_reverse, All-append, Contains-permutation, IsPermutation-sym, sorted_far, AscendingAreSets}
+use Rattle.eco_store.proofs.Common.{has_item, is_ascending, both, equal_tie, or_parts, or_right, tied_itself}
 use Rattle.std.specs.Bool.{Decides}
-use Rattle.std.specs.Cmp.{IsTotalOrder}
-use Rattle.std.specs.FinMap.{IsAntisymmetric}
-use Rattle.std.specs.List.{All, AllPairs, Contains, list_all}
-use Rattle.std.specs.List.Sorted.{IsPermutation, IsSorted}
-use Rattle.std.specs.Ordering.{eq_by_cmp, ordering_reverse}
-use Rattle.std.proofs.lemmas.List.Elements.{All-append}
 use Rattle.std.proofs.lemmas.List.Kept.{AllPairs-cons}
 use Rattle.std.proofs.lemmas.List.MinMax.{ranks_by}
-use Rattle.std.proofs.lemmas.List.Sorted.{Contains-permutation, IsPermutation-sym, sorted_far}
 use Rattle.std.proofs.lemmas.Map.Keys.{IsDistinct-IsPermutation}
 use Rattle.std.proofs.lemmas.Map.Made.{AllPairs-from_IsDistinct, IsDistinct-from_AllPairs}
-use Rattle.eco_ids.specs.Order.{AscendingAreSets, has_item, is_ascending}
-use Rattle.eco_ids.proofs.Ascending.{both}
-use Rattle.eco_ids.proofs.Facts.{equal_tie, or_parts, or_right}
-use Rattle.std.specs.Cmp.{tied_itself}
 
 -- nothing comes twice
 abbrev pub Apart : {K : Type 0} → List K → Type 0

@@ -1,28 +1,11 @@
 -- An entity whose type is known gets another one.
-use Rattle.std.proofs.Common.{◌≡◌, Bool, false, cond, is_eq, is_lt, List, [], ◌∷◌, map, Option, None, Some, option_map, unwrap_or}
-use Rattle.std.proofs.Common.{is_some, IsTrue, ap, refl, subst, sym, ◌∙◌}
-use Rattle.std.proofs.lemmas.Option.{same_Some}
-use Rattle.std.specs.List.{list_all}
-use Rattle.std.specs.Ordering.{ordering_reverse}
-use Rattle.std.specs.FinMap.Entries.{find}
-use Rattle.eco_ids.specs.declared.entity.Entity.{Entity}
-use Rattle.eco_ids.specs.declared.id.Id.{Id}
-use Rattle.eco_ids.specs.declared.value.Value.{Value}
-use Rattle.eco_ids.specs.Indices.{Indexed, Living, changed, change_kept, record_of, with_record}
-use Rattle.eco_ids.specs.Order.{id_cmp, id_eq, has_item, is_ascending}
-use Rattle.eco_ids.specs.World.{Record, zeros}
-use Rattle.eco_ids.proofs.Ascending.{first, second, less}
+use Rattle.eco_store.proofs.Common.{◌≡◌, Bool, false, cond, is_eq, is_lt, List, [], ◌∷◌, map, Option, None, Some, option_map, unwrap_or, is_some}
+use Rattle.eco_store.proofs.Common.{IsTrue, ap, refl, subst, sym, ◌∙◌, same_Some, list_all, ordering_reverse, find, Entity, Id, Value, Indexed, Living}
+use Rattle.eco_store.proofs.Common.{changed, change_kept, record_of, with_record, id_cmp, id_eq, has_item, is_ascending, Record, zeros, first, second, less}
+use Rattle.eco_store.proofs.Common.{id_eq_itself, set_own, living_at, Place, Registration, own_place, retyped, value_in, TableState, table_in, no_row}
+use Rattle.eco_store.proofs.Common.{AllHaveIds, IsStore, has_in_store, read, record_ids, type_in_store, with_type}
 use Rattle.eco_ids.proofs.Exact.{keys_find}
-use Rattle.eco_ids.proofs.Facts.{id_eq_itself}
 use Rattle.eco_ids.proofs.IdOrder.{id_cmp_total}
-use Rattle.eco_ids.proofs.Lists.{set_own}
-use Rattle.eco_ids.proofs.States.{living_at}
-use Rattle.eco_entities.specs.declared.place.Place.{Place}
-use Rattle.eco_entities.specs.Registration.{Registration, own_place}
-use Rattle.eco_tables.specs.Column.{retyped, value_in}
-use Rattle.eco_tables.specs.Table.{TableState}
-use Rattle.eco_tables.specs.Tables.{table_in, no_row, AllHaveIds}
-use Rattle.eco_store.specs.Store.{IsStore, has_in_store, read, record_ids, type_in_store, with_type}
 use Rattle.eco_store.proofs.StoreChanges.{held_there, read_record, row_within}
 
 -- an entity's type is that of its table

@@ -1,28 +1,13 @@
 -- The store after an entity's row went, and the entity that took its place was placed anew.
-use Rattle.std.proofs.Common.{◌≡◌, ◌≢◌, ℕ, ◌<◌, ◌-◌, ◌+◌, ◌==◌, Bool, true, false, true≢false, cond, Bor, List, map, length, get_or, set, slice_get, nat_lt}
-use Rattle.std.proofs.Common.{if◌then◌else◌, Option, Some, None, option_map, option_and_then, is_some, IsSome, IfSome, IsTrue, refl, sym, ap, subst, ◌∙◌}
-use Rattle.std.proofs.Common.{arith, inl, inr}
-use Rattle.std.specs.List.{swap_remove}
-use Rattle.std.specs.Option.{option_copied}
-use Rattle.std.proofs.lemmas.Bool.{cases_eq}
-use Rattle.std.proofs.lemmas.Option.{slice_get-get_or, slice_get-map, slice_get_within}
-use Rattle.eco_ids.specs.declared.entity.Entity.{Entity}
-use Rattle.eco_ids.specs.declared.id.Id.{Id}
-use Rattle.eco_ids.specs.Indices.{changed, change_kept, with_record, Indexed, IndexState, Retired, Free, Living, record_of, with_death, raised, is_alive}
-use Rattle.eco_ids.specs.Indices.{map_state}
-use Rattle.eco_ids.specs.World.{Record}
-use Rattle.eco_ids.proofs.Lists.{not_equal, slice_get-set_there, slice_get-set_other}
-use Rattle.eco_ids.proofs.States.{living_at, record_at}
-use Rattle.eco_tables.specs.Column.{retyped}
-use Rattle.eco_tables.specs.Table.{TableState, TableRow, entities_of, retyped_row}
-use Rattle.eco_tables.specs.Tables.{table_in, row_in, no_row}
-use Rattle.eco_archetypes.specs.Archetypes.{row_at, SameRows}
-use Rattle.eco_entities.specs.declared.place.Place.{Place}
-use Rattle.eco_entities.specs.Registration.{Registration, placed, own_place}
-use Rattle.eco_store.specs.Layout.{rows_in, MovesRow}
-use Rattle.eco_store.specs.Placing.{fixed}
-use Rattle.eco_store.specs.Seats.{Seat, IsSeated, seated_entity, seat_of, seen, held_of}
-use Rattle.eco_store.specs.Store.{record_for, held_at, read, seat_in, seat_at, seat_of_place, HasPlace, IsStore, with_type}
+use Rattle.eco_store.proofs.Common.{◌≡◌, ◌≢◌, ℕ, ◌<◌, ◌-◌, ◌+◌, ◌==◌, Bool, true, false, true≢false, cond, Bor, List, map}
+use Rattle.eco_store.proofs.Common.{length, get_or, set, slice_get, nat_lt, if◌then◌else◌, Option, Some, None, option_map, option_and_then, is_some}
+use Rattle.eco_store.proofs.Common.{IsSome, IfSome, IsTrue, refl, sym, ap, subst, ◌∙◌, arith, inl, inr, swap_remove, option_copied, cases_eq}
+use Rattle.eco_store.proofs.Common.{slice_get-get_or, slice_get-map, slice_get_within, Entity, Id, changed, change_kept, with_record, Indexed, IndexState}
+use Rattle.eco_store.proofs.Common.{Retired, Free, Living, record_of, with_death, raised, is_alive, map_state, Record, not_equal, slice_get-set_there}
+use Rattle.eco_store.proofs.Common.{slice_get-set_other, living_at, record_at, retyped, TableState, TableRow, entities_of, retyped_row, table_in, row_in}
+use Rattle.eco_store.proofs.Common.{no_row, row_at, SameRows, Place, Registration, placed, own_place, rows_in, MovesRow, fixed, Seat, IsSeated, seated_entity}
+use Rattle.eco_store.proofs.Common.{seat_of, held_of, record_for, held_at, read, seat_in, seat_at, seat_of_place, HasPlace, IsStore, with_type}
+use Rattle.eco_store.specs.Seats.{seen}
 use Rattle.eco_store.proofs.RowChanges.{between_rows, moves_removes, moves_pushes, rows_removed, swap_at_row, swap_at_last, is_equal}
 use Rattle.eco_store.proofs.SeatChanges.{Pushed, no_some, one_some, pushed_change, removed_change}
 use Rattle.eco_store.proofs.Views.{alike_set, at_each, bare, bare_at, changed_at, raised_either, read_at, seen_alike}

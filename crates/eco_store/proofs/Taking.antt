@@ -1,15 +1,8 @@
 -- A table of one row that takes its next type, as a step of that row.
-use Rattle.std.proofs.Common.{◌≡◌, ℕ, List, [], ◌∷◌, map, length, get_or, set, refl, arith, zero, suc, ◌<◌, Option, unwrap_or, ap, ◌∙◌, true≢false}
-use Rattle.std.proofs.Common.{Some, None, is_some, IsTrue, sym, subst}
-use Rattle.std.proofs.lemmas.List.{length-map}
-use Rattle.eco_tables.specs.Table.{TableRow, TableState, retyped_row}
-use Rattle.eco_tables.specs.Tables.{no_table, no_row, slot_of, table_in, rowless, rowless_type}
-use Rattle.eco_ids.specs.declared.id.Id.{Id}
-use Rattle.eco_entities.specs.declared.place.Place.{Place}
-use Rattle.eco_store.specs.Layout.{rows_in, RetypesRow}
-use Rattle.eco_archetypes.specs.Archetypes.{TakesType, RowlessIn, is_rowless, SameSlots}
-use Rattle.std.specs.List.{list_any}
-use Rattle.std.proofs.Common.{nat_eq}
+use Rattle.eco_store.proofs.Common.{◌≡◌, ℕ, List, [], ◌∷◌, map, length, get_or, set, refl, arith, zero, suc, ◌<◌, Option, unwrap_or, ap}
+use Rattle.eco_store.proofs.Common.{◌∙◌, true≢false, Some, None, is_some, IsTrue, sym, subst, length-map, TableRow, TableState, retyped_row, no_table}
+use Rattle.eco_store.proofs.Common.{no_row, slot_of, table_in, rowless, rowless_type, Id, Place, rows_in, RetypesRow, TakesType, RowlessIn, is_rowless}
+use Rattle.eco_store.proofs.Common.{SameSlots, list_any, nat_eq}
 use Rattle.eco_store.proofs.Views.{at_each}
 
 pub retypes_one : (xs : List TableRow) (row : ℕ) (f : TableRow → TableRow) (d : TableRow) → length xs ≡ 1 → row < length xs

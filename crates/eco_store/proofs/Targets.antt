@@ -1,13 +1,7 @@
 -- Targets stay while tables change.
-use Rattle.std.proofs.Common.{◌≡◌, ℕ, ◌≤◌, Bool, true, false, true≢false, ◌||◌, IsTrue, if◌then◌else◌, List, [], ◌∷◌, ◌++◌}
-use Rattle.std.proofs.Common.{Option, Some, None, unwrap_or, OnSome, IfNone, nat_eq, refl, sym, ap, ◌∙◌, arith}
-use Rattle.std.specs.List.{list_any}
-use Rattle.std.proofs.lemmas.List.Folds.{list_any-append}
-use Rattle.eco_ids.specs.declared.id.Id.{Id}
-use Rattle.eco_tables.specs.Table.{TableState}
-use Rattle.eco_tables.specs.Tables.{table_in, no_table, SetsSlot}
-use Rattle.eco_archetypes.specs.Archetypes.{KeepsRoom, SameSlots}
-use Rattle.eco_store.specs.Staying.{StayingState, with_target, SameIn}
+use Rattle.eco_store.proofs.Common.{◌≡◌, ℕ, ◌≤◌, Bool, true, false, true≢false, ◌||◌, IsTrue, if◌then◌else◌, List, [], ◌∷◌}
+use Rattle.eco_store.proofs.Common.{◌++◌, Option, Some, None, unwrap_or, OnSome, IfNone, nat_eq, refl, sym, ap, ◌∙◌, arith, list_any, list_any-append}
+use Rattle.eco_store.proofs.Common.{Id, TableState, table_in, no_table, SetsSlot, KeepsRoom, SameSlots, StayingState, with_target, SameIn}
 use Rattle.eco_store.proofs.RowChanges.{is_equal}
 use Rattle.eco_store.proofs.Views.{at_each}
 

@@ -1,15 +1,7 @@
 -- Tables that lose rows, and what that leaves of the plans over them.
-use Rattle.std.proofs.Common.{◌<◌, map, ◌≡◌, ℕ, ◌≤◌, Bool, true, false, true≢false, List, length, get_or, Option, Some, option_map, unwrap_or}
-use Rattle.std.proofs.Common.{IsSome, nat_eq, refl, sym, ap, ◌∙◌, arith}
-use Rattle.std.specs.List.{list_any}
-use Rattle.eco_tables.specs.Table.{TableState}
-use Rattle.eco_tables.specs.Tables.{slot_of, table_in, no_table, SetsSlot}
-use Rattle.eco_archetypes.specs.Archetypes.{type_at}
-use Rattle.eco_archetypes.proofs.ArchetypeLemmas.{sets_types}
-use Rattle.eco_store.specs.declared.transfer.Transfer.{Transfer}
-use Rattle.eco_store.specs.declared.type_change.TypeChange.{TypeChange}
-use Rattle.eco_store.specs.Staying.{SameIn}
-use Rattle.eco_store.specs.Transfers.{change_of, AreNamed, IsPlan, HasRoom, Thins, due}
+use Rattle.eco_store.proofs.Common.{◌<◌, map, ◌≡◌, ℕ, ◌≤◌, Bool, true, false, true≢false, List, length, get_or, Option, Some, option_map}
+use Rattle.eco_store.proofs.Common.{unwrap_or, IsSome, nat_eq, refl, sym, ap, ◌∙◌, arith, list_any, TableState, slot_of, table_in, no_table, SetsSlot}
+use Rattle.eco_store.proofs.Common.{type_at, sets_types, Transfer, TypeChange, SameIn, change_of, AreNamed, IsPlan, HasRoom, Thins, due}
 use Rattle.eco_store.proofs.Pouring.{changes_alike, plan_alike, due_fewer, due_none}
 use Rattle.eco_store.proofs.Targets.{room_won}
 use Rattle.eco_store.proofs.Views.{at_each}

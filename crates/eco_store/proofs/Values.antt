@@ -1,38 +1,21 @@
 -- What a store answers of one entity, and the store after a value or a name was written.
-use Rattle.std.proofs.Common.{◌≡◌, ◌≢◌, ℕ, zero, suc, ◌<◌, Bool, true, false, not, ◌&&◌, List, [], ◌∷◌, map, length, slice_get, set, get_or, Option, Some, None}
-use Rattle.std.proofs.Common.{option_map, option_and_then, unwrap_or, is_some, IsSome, IsTrue, if◌then◌else◌, ◌==◌, Result, MatchBool, MatchOption, refl, sym}
-use Rattle.std.proofs.Common.{ap, subst, ◌∙◌}
-use Rattle.std.specs.List.{All}
-use Rattle.std.specs.FinMap.Entries.{find}
-use Rattle.std.proofs.lemmas.Option.{slice_get_within, slice_get-get_or}
-use Rattle.eco_ids.specs.World.{Record}
-use Rattle.eco_ids.specs.declared.entity.Entity.{Entity}
-use Rattle.eco_ids.specs.declared.id.Id.{Id}
-use Rattle.eco_ids.specs.declared.refusal.Refusal.{Refusal}
-use Rattle.eco_ids.specs.declared.refusal.Refusal.TheVariants.{NotAlive, Reserved, BadName, NameTaken}
-use Rattle.eco_ids.specs.declared.value.Value.{Value}
-use Rattle.eco_ids.specs.Indices.{changed, change_kept, Indexed, Living, record_in, record_of, is_alive, map_state}
+use Rattle.eco_store.proofs.Common.{◌≡◌, ◌≢◌, ℕ, zero, suc, ◌<◌, Bool, true, false, not, ◌&&◌, List, [], ◌∷◌, map, length}
+use Rattle.eco_store.proofs.Common.{slice_get, set, get_or, Option, Some, None, option_map, option_and_then, unwrap_or, is_some, IsSome, IsTrue}
+use Rattle.eco_store.proofs.Common.{if◌then◌else◌, ◌==◌, Result, MatchBool, MatchOption, refl, sym, ap, subst, ◌∙◌, All, find, slice_get_within}
+use Rattle.eco_store.proofs.Common.{slice_get-get_or, Record, Entity, Id, Refusal, NotAlive, Reserved, BadName, NameTaken, Value, changed, change_kept, Indexed}
+use Rattle.eco_store.proofs.Common.{Living, record_in, record_of, is_alive, map_state, id_cmp, Meets, is_out_of_memory, first_refusal, Answers, Refuses}
+use Rattle.eco_store.proofs.Common.{TableState, TableRow, HasIds, AllHaveIds, slot_of, table_in, row_in, no_row, no_table, rows_in, SetsRows, Place}
+use Rattle.eco_store.proofs.Common.{Registration, given_name, own_place, renamed, Seat, IsSeated, seat_of, held_of, row_at, record_for, record_name, held_at}
+use Rattle.eco_store.proofs.Common.{held_in_store, read, seat_in, seat_at, HasPlace, IsStore, Stands, IsShown, seat_of_place, slice_get-set_there}
+use Rattle.eco_store.proofs.Common.{slice_get-set_other, living_at, record_at, map-set}
 use Rattle.eco_ids.specs.Names.{is_proper, is_same_name}
-use Rattle.eco_ids.specs.Order.{id_cmp}
-use Rattle.eco_ids.specs.Outcome.{Meets, is_out_of_memory, first_refusal, Answers, Refuses}
-use Rattle.eco_tables.specs.Table.{TableState, TableRow, HasIds}
-use Rattle.eco_tables.specs.Tables.{AllHaveIds, slot_of, table_in, row_in, no_row, no_table}
-use Rattle.eco_store.specs.Layout.{rows_in, SetsRows}
-use Rattle.eco_entities.specs.declared.place.Place.{Place}
 use Rattle.eco_ids.specs.Renaming.{own_name, unfit_rename, RenamesWith, may_rename}
 use Rattle.eco_ids.specs.Step.{with_name}
-use Rattle.eco_entities.specs.Registration.{Registration, given_name, own_place, renamed}
-use Rattle.eco_store.specs.Seats.{Seat, IsSeated, seat_of, seen, held_of}
-use Rattle.eco_archetypes.specs.Archetypes.{row_at}
-use Rattle.eco_store.specs.Store.{record_for, record_name, held_at, held_in_store, read, seat_in, seat_at, HasPlace, IsStore, Stands, IsShown, seat_of_place}
-use Rattle.eco_store.proofs.SeatChanges.{no_some, one_some}
+use Rattle.eco_store.specs.Seats.{seen}
+use Rattle.eco_store.proofs.SeatChanges.{no_some, one_some, rewritten_seated, who}
 use Rattle.eco_store.proofs.Newborn.{is_borne-map}
 use Rattle.eco_store.proofs.StoreChanges.{place_from_seat, placed_record, seat_there, read_record, row_within, held_there}
-use Rattle.eco_ids.proofs.Lists.{slice_get-set_there, slice_get-set_other}
-use Rattle.eco_ids.proofs.States.{living_at, record_at}
 use Rattle.eco_store.proofs.Views.{alike_set, at_each, changed_at, each_state, read_at, seen_alike}
-use Rattle.std.proofs.lemmas.List.{map-set}
-use Rattle.eco_store.proofs.SeatChanges.{rewritten_seated, who}
 
 -- ---- readers
 

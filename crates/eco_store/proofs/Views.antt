@@ -1,21 +1,10 @@
 -- What is seen of a store after places and rows changed.
-use Rattle.std.proofs.Common.{◌≡◌, ◌≢◌, ℕ, suc, List, [], ◌∷◌, set, slice_get, Option, Some, None, option_map, unwrap_or, is_some, IsTrue, refl, sym}
-use Rattle.std.proofs.Common.{ap, subst, ◌∙◌, ◌+◌, nat_lt, Bool, true, false, if◌then◌else◌, inl, inr}
-use Rattle.std.proofs.lemmas.Bool.{cases_eq}
-use Rattle.eco_ids.specs.World.{Record}
-use Rattle.eco_ids.specs.declared.entity.Entity.{Entity}
-use Rattle.eco_ids.specs.declared.id.Id.{Id}
-use Rattle.eco_ids.specs.declared.value.Value.{Value}
-use Rattle.eco_ids.specs.Indices.{changed, change_kept, Indexed, IndexState, Retired, Free, Living, record_of, is_alive, map_state, raised}
-use Rattle.eco_tables.specs.Table.{TableState, TableRow}
-use Rattle.eco_entities.specs.declared.place.Place.{Place}
-use Rattle.eco_entities.specs.Registration.{Registration}
-use Rattle.eco_archetypes.specs.Archetypes.{row_at}
+use Rattle.eco_store.proofs.Common.{◌≡◌, ◌≢◌, ℕ, suc, List, [], ◌∷◌, set, slice_get, Option, Some, None, option_map, unwrap_or, is_some}
+use Rattle.eco_store.proofs.Common.{IsTrue, refl, sym, ap, subst, ◌∙◌, ◌+◌, nat_lt, Bool, true, false, if◌then◌else◌, inl, inr, cases_eq}
+use Rattle.eco_store.proofs.Common.{Record, Entity, Id, Value, changed, change_kept, Indexed, IndexState, Retired, Free, Living, record_of, is_alive, map_state}
+use Rattle.eco_store.proofs.Common.{raised, TableState, TableRow, Place, Registration, row_at, record_for, held_at, read, seat_in, seat_at, seat_of_place}
+use Rattle.eco_store.proofs.Common.{slice_get-map, slice_get-set_there, slice_get-set_other, living_at}
 use Rattle.eco_store.specs.Seats.{seen}
-use Rattle.eco_store.specs.Store.{record_for, held_at, read, seat_in, seat_at, seat_of_place}
-use Rattle.std.proofs.lemmas.Option.{slice_get-map}
-use Rattle.eco_ids.proofs.Lists.{slice_get-set_there, slice_get-set_other}
-use Rattle.eco_ids.proofs.States.{living_at}
 
 -- what holds of one number and of each other holds of all
 pub at_each : (n : ℕ) (C : ℕ → Type 0) → C n → ((m : ℕ) → m ≢ n → C m) → (m : ℕ) → C m

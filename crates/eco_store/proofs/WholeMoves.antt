@@ -1,30 +1,15 @@
 -- All rows of a table moved to the end of another, and their entities with them.
-use Rattle.std.proofs.Common.{◌≡◌, ◌≢◌, ℕ, zero, suc, ◌+◌, ◌-◌, ◌<◌, ◌≤◌, ◌==◌, ◌&&◌, nat_lt, Bool, true, false, if◌then◌else◌, List, [], ◌∷◌, ◌++◌, map}
-use Rattle.std.proofs.Common.{length, slice_get, set, get_or, Option, Some, None, option_map, unwrap_or, is_some, IsSome, IsTrue, zero-le, refl, sym, ap}
-use Rattle.std.proofs.Common.{subst, ◌∙◌, arith, inl, inr}
+use Rattle.eco_store.proofs.Common.{◌≡◌, ◌≢◌, ℕ, zero, suc, ◌+◌, ◌-◌, ◌<◌, ◌≤◌, ◌==◌, ◌&&◌, nat_lt, Bool, true, false}
+use Rattle.eco_store.proofs.Common.{if◌then◌else◌, List, [], ◌∷◌, ◌++◌, map, length, slice_get, set, get_or, Option, Some, None, option_map}
+use Rattle.eco_store.proofs.Common.{unwrap_or, is_some, IsSome, IsTrue, zero-le, refl, sym, ap, subst, ◌∙◌, arith, inl, inr, cases_eq, le-ltb, ltb-true}
+use Rattle.eco_store.proofs.Common.{ltb-false, Decides-ltb, get_or-map, length-map, map-id, slice_get-map, slice_get_past, slice_get_within, slice_get-get_or}
+use Rattle.eco_store.proofs.Common.{get_or_from_slice_get, Entity, Id, changed, change_kept, Indexed, IndexState, Retired, Free, Living, is_alive, map_state}
+use Rattle.eco_store.proofs.Common.{not_equal, record_at, Place, Registration, placed, TableState, TableRow, retyped_row, entities_of, slot_of, table_in}
+use Rattle.eco_store.proofs.Common.{no_row, no_table, MovesAll, AllHaveIds, Transfer, TypeChange, type_at, row_at, changed_record, after_change, Seat}
+use Rattle.eco_store.proofs.Common.{seated_entity, seat_of, held_of, record_for, read, seat_in, seat_at, seat_of_place, held_at, HasPlace, IsStore, change_of}
+use Rattle.eco_store.proofs.Common.{place_after, placed_after, with_places, Pours, there_by_row, type_there, moves_all_types}
 use Rattle.std.proofs.Math.Bool.{and-false}
-use Rattle.std.proofs.lemmas.Bool.{cases_eq, le-ltb, ltb-true, ltb-false}
-use Rattle.std.proofs.lemmas.Bool.Decides.{Decides-ltb}
-use Rattle.std.proofs.lemmas.List.{get_or-map, length-map, map-id}
-use Rattle.std.proofs.lemmas.Option.{slice_get-map, slice_get_past, slice_get_within, slice_get-get_or, get_or_from_slice_get}
-use Rattle.eco_ids.specs.declared.entity.Entity.{Entity}
-use Rattle.eco_ids.specs.declared.id.Id.{Id}
-use Rattle.eco_ids.specs.Indices.{changed, change_kept, Indexed, IndexState, Retired, Free, Living, is_alive, map_state}
-use Rattle.eco_ids.proofs.Lists.{not_equal}
-use Rattle.eco_ids.proofs.States.{record_at}
-use Rattle.eco_entities.specs.declared.place.Place.{Place}
-use Rattle.eco_entities.specs.Registration.{Registration, placed}
 use Rattle.eco_entities.specs.Rules.{IsRuled}
-use Rattle.eco_tables.specs.Table.{TableState, TableRow, retyped_row, entities_of}
-use Rattle.eco_tables.specs.Tables.{slot_of, table_in, no_row, no_table, MovesAll, AllHaveIds}
-use Rattle.eco_store.specs.declared.transfer.Transfer.{Transfer}
-use Rattle.eco_store.specs.declared.type_change.TypeChange.{TypeChange}
-use Rattle.eco_archetypes.specs.Archetypes.{type_at, row_at}
-use Rattle.eco_store.specs.Retyping.{changed_record, after_change}
-use Rattle.eco_store.specs.Seats.{Seat, seated_entity, seat_of, held_of}
-use Rattle.eco_store.specs.Store.{record_for, read, seat_in, seat_at, seat_of_place, held_at, HasPlace, IsStore}
-use Rattle.eco_store.specs.Transfers.{change_of, place_after, placed_after, with_places, Pours}
-use Rattle.eco_archetypes.proofs.ArchetypeLemmas.{there_by_row, type_there, moves_all_types}
 use Rattle.eco_store.proofs.Retyping.{other_type, own_type}
 use Rattle.eco_store.proofs.RowChanges.{is_equal}
 use Rattle.eco_store.proofs.RowCounts.{rows_bounded}

@@ -1,11 +1,11 @@
 -- The entities of a store in their tables, and how these change.
-use Rattle.std.specs.Prelude.{◌≡◌, ◌≢◌, ℕ, IsTrue, List, [], ◌∷◌, ◌++◌, length, map, nat_eq, slice_get, slice_index_or, slice_set}
+use Rattle.std.specs.Prelude.{◌≡◌, ◌≢◌, ℕ, IsTrue, List, [], ◌∷◌, ◌++◌, length, nat_eq, slice_get, slice_index_or, slice_set}
 use Rattle.std.specs.Prelude.{Option, OnErr, OnOk, Result}
 use Rattle.std.specs.List.{list_any, swap_remove}
 use Rattle.eco_ids.specs.declared.entity.Entity.{Entity}
 use Rattle.eco_ids.specs.declared.id.Id.{Id}
 use Rattle.eco_tables.specs.Table.{TableRow, TableState, retyped_row, entities_of}
-use Rattle.eco_tables.specs.Tables.{table_in, row_in, no_row, new_row}
+use Rattle.eco_tables.specs.Tables.{table_in, no_row, new_row}
 use Rattle.eco_entities.specs.declared.place.Place.{Place}
 use Rattle.eco_entities.specs.Needs.{need}
 use Rattle.eco_ids.specs.Indices.{Indexed}
@@ -93,10 +93,6 @@ pub record LosesRows (old new : Layout) : Type 0 where
 -- the rows of the table in a slot; none, where it is empty
 abbrev pub rows_in : List (Option TableState) → ℕ → List TableRow
 rows_in slots n = (table_in slots n).rows
-
--- the ids of a row
-abbrev pub ids_at : List (Option TableState) → Place → List Id
-ids_at slots p = map (λ x. x.0) (row_in slots p.table p.row).held
 
 -- the table in a slot has these rows, and every other the rows that it had
 pub record SetsRows (old new : ℕ → List TableRow) (n : ℕ) (rows : List TableRow) : Type 0 where

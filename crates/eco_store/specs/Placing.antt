@@ -1,8 +1,6 @@
 -- Steps of a store's calls on the index of its entities.
-use Rattle.std.specs.Prelude.{◌≡◌, Option, Some, None, Result, Ok, Err, MatchOption}
+use Rattle.std.specs.Prelude.{Option, Some, None}
 use Rattle.eco_ids.specs.declared.entity.Entity.{Entity}
-use Rattle.eco_ids.specs.declared.refusal.Refusal.{Refusal}
-use Rattle.eco_ids.specs.declared.refusal.Refusal.TheVariants.{NoMoreIds}
 use Rattle.eco_ids.specs.Indices.{changed, Indexed}
 use Rattle.eco_entities.specs.declared.place.Place.{Place}
 use Rattle.eco_entities.specs.Registration.{Registration, placed}
@@ -11,7 +9,3 @@ use Rattle.eco_entities.specs.Registration.{Registration, placed}
 abbrev pub fixed : Indexed Registration → Option Entity → Place → Indexed Registration
 fixed w None p = w
 fixed w (Some e) p = changed w e (placed p)
-
--- the answer says what stands against a new entity: its name is unfit, or nobody can be made next
-abbrev pub Opposes : Option Refusal → Option Entity → Result (Unit {0}) Refusal → Type 0
-Opposes unfit next r = MatchOption unfit (MatchOption next (r ≡ Err NoMoreIds) (λ e. r ≡ Ok tt)) (λ why. r ≡ Err why)

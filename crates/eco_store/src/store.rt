@@ -1,5 +1,6 @@
 //! The store of a world: each living entity with its name, its ids and their values.
-ghost use Rattle.std.specs.Prelude.{◌≡◌, ◌≤◌, List, ℕ, [], length, None, Some, Ok, is_some, IfSome, IfNone, IsTrue, MatchOption, map, slice_index_or};
+ghost use Rattle.std.specs.Prelude.{◌≡◌, ◌≤◌, List, ℕ, [], length, None, Some, Ok, is_some, IfSome, IfNone, IsTrue};
+ghost use Rattle.std.specs.Prelude.{MatchOption, map, slice_index_or};
 ghost use Rattle.std.specs.Option.{option_copied};
 ghost use Rattle.std.specs.FinMap.Entries.{find};
 ghost use Rattle.eco_ids.specs.Births.{unfit_name, Makes};
@@ -10,7 +11,9 @@ ghost use Rattle.eco_ids.specs.Order.{id_cmp, is_ascending};
 ghost use Rattle.eco_ids.specs.Renaming.{own_name};
 ghost use Rattle.eco_entities.specs.Registration.{entity_at, given_name};
 ghost use Rattle.eco_tables.specs.Table.{TableRow};
-ghost use Rattle.eco_store.specs.Store.{Admission, CreatesRecord, RenamesRecord, MakesRecordAlive, held_in_store, own_arity_in_store, fits_in_store, record_name, type_in_store, record_with_written, Stands};
+ghost use Rattle.eco_store.specs.Store.{Admission, CreatesRecord, RenamesRecord, MakesRecordAlive, held_in_store};
+ghost use Rattle.eco_store.specs.Store.{own_arity_in_store, fits_in_store, record_name, type_in_store};
+ghost use Rattle.eco_store.specs.Store.{record_with_written, Stands};
 ghost use Rattle.eco_store.specs.Lent.{AreTablesOf, KeepsData};
 
 use crate::layout::Layout;

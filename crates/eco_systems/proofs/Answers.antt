@@ -1,22 +1,13 @@
 -- A query answers the same on ids that it sees alike.
-use Rattle.std.proofs.Common.{◌≡◌, Bool, true, false, cond, not, ◌&&◌, ◌||◌, List, [], ◌∷◌, map, filter, refl, sym, ap, ◌∙◌, is_lt, true≢false, IsTrue, inl}
-use Rattle.std.proofs.Common.{inr, Option, Some, None}
-use Rattle.std.specs.Prelude.{find, flat_map, option_to_list}
-use Rattle.std.specs.List.{list_any, AllByRecursion}
-use Rattle.std.proofs.lemmas.List.Folds.{list_any-append}
-use Rattle.eco_ids.specs.declared.id.Id.{Id}
-use Rattle.eco_ids.specs.declared.id.Id.TheVariants as id
-use Rattle.eco_ids.specs.declared.pattern.Pattern.{Pattern}
+use Rattle.eco_systems.proofs.Common.{◌≡◌, Bool, true, false, cond, not, ◌&&◌, ◌||◌, List, [], ◌∷◌, map, filter, refl, sym, ap, ◌∙◌}
+use Rattle.eco_systems.proofs.Common.{is_lt, true≢false, IsTrue, inl, inr, Option, Some, None, flat_map, option_to_list, list_any, AllByRecursion}
+use Rattle.eco_systems.proofs.Common.{list_any-append, Id, Pattern, pattern_matches, id_cmp, has_item, is_ascending, both, or_left, or_parts, or_right}
+use Rattle.eco_systems.proofs.Common.{entity_eq_itself, QuerySlot, HasPositive, is_positive, exactly, patterns_of, reads, matches_one}
+use Rattle.std.specs.Prelude.{find}
 use Rattle.eco_ids.specs.Answer.{same_filling, is_least_match, entries_of, choices}
 use Rattle.eco_ids.specs.Terms.{QueryTerm, And, Not, Optional, Or}
-use Rattle.eco_ids.specs.Matching.{pattern_matches}
-use Rattle.eco_ids.specs.Order.{id_cmp, has_item, is_ascending}
-use Rattle.eco_ids.proofs.Ascending.{both}
-use Rattle.eco_ids.proofs.Facts.{or_left, or_parts, or_right}
-use Rattle.eco_ids.proofs.Overlaps.{entity_eq_itself}
-use Rattle.eco_query.specs.Queries.{QuerySlot, HasPositive, is_positive, exactly, patterns_of, reads}
-use Rattle.eco_systems.specs.Systems.{matches_one}
 use Rattle.eco_systems.proofs.Lists.{filter_both, any_filtered, any_kept, same_filtered, gathers_nothing, all_gathered, all_mapped, all_pass}
+use Rattle.eco_ids.specs.declared.id.Id.TheVariants as id
 
 -- what the slots ask
 abbrev pub asked : List QuerySlot → List QueryTerm

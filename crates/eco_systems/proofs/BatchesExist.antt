@@ -1,31 +1,14 @@
 -- A lawful world has batches: its closed writes can be listed, so that what conflicts is decided.
-use Rattle.std.proofs.Common.{◌≡◌, Bool, ◌||◌, ◌↔◌, inl, inr, List, [], ◌∷◌, ◌++◌, map, refl, sym, subst, true≢false, IsTrue, Option, Some, None}
-use Rattle.std.specs.List.{list_any}
-use Rattle.std.proofs.lemmas.Bool.Decides.{Decides-or}
-use Rattle.std.proofs.lemmas.List.{map-id}
-use Rattle.std.proofs.lemmas.List.{append-nil, append_assoc}
-use Rattle.eco_ids.specs.declared.entity.Entity.{Entity}
-use Rattle.eco_ids.specs.declared.entity.TheConstants.{WITH}
-use Rattle.eco_ids.specs.declared.id.Id.TheVariants as id
-use Rattle.eco_ids.specs.declared.pattern.Pattern.{Pattern}
-use Rattle.eco_ids.specs.Lawful.{IsLawful}
-use Rattle.eco_ids.specs.Least.{root, next}
-use Rattle.eco_ids.specs.Matching.{pattern_overlaps}
-use Rattle.eco_ids.specs.Order.{entity_cmp, has_item}
-use Rattle.eco_ids.specs.Traits.{Reaches}
-use Rattle.eco_ids.specs.World.{WorldState, has, is_alive}
-use Rattle.eco_ids.proofs.Ascending.{second}
-use Rattle.eco_ids.proofs.Facts.{same_or_apart}
-use Rattle.eco_ids.proofs.IdOrder.{entity_cmp_total, same_entity}
+use Rattle.eco_systems.proofs.Common.{◌≡◌, Bool, ◌||◌, ◌↔◌, inl, inr, List, [], ◌∷◌, ◌++◌, map, refl, sym, subst, true≢false}
+use Rattle.eco_systems.proofs.Common.{IsTrue, Option, Some, None, list_any, Decides-or, map-id, append-nil, append_assoc, Entity, WITH, Pattern, IsLawful, root}
+use Rattle.eco_systems.proofs.Common.{next, pattern_overlaps, entity_cmp, has_item, Reaches, WorldState, has, is_alive, second, same_or_apart, entity_cmp_total}
+use Rattle.eco_systems.proofs.Common.{same_entity, AreBatches, Conflict, batched, SystemModel, system_reads, IsTraitWriter, SomeOf, widened, writes_trait}
 use Rattle.eco_ids.proofs.Listable.{In, decide_bool, listed, sorted}
 use Rattle.eco_ids.proofs.LivingLists.{living_in, the_living}
-use Rattle.eco_systems.specs.Batches.{AreBatches, Conflict}
 use Rattle.eco_systems.specs.Closing.{Among, ListsClosed, pattern_head, pattern_with_head}
-use Rattle.eco_systems.specs.Joining.{batched}
-use Rattle.eco_systems.specs.Systems.{SystemModel, system_reads}
-use Rattle.eco_systems.specs.Writes.{IsTraitWriter, SomeOf, widened, writes_trait}
 use Rattle.eco_systems.proofs.ClosedLists.{among_reached, among_wild, lists_more, lists_none}
 use Rattle.eco_systems.proofs.JoinedOneByOne.{batched_are_batches}
+use Rattle.eco_ids.specs.declared.id.Id.TheVariants as id
 
 module _ (w : WorldState) (l : IsLawful w) where
   -- With leads to the living, but for where it begins

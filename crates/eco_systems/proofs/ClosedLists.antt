@@ -1,24 +1,11 @@
 -- Closed writes, pattern by pattern.
-use Rattle.std.proofs.Common.{◌≡◌, Bool, false, ◌||◌, ◌↔◌, ◌⊎◌, inl, inr, List, [], ◌∷◌, ◌++◌, map, refl, sym, ap}
-use Rattle.std.proofs.Common.{◌∙◌, subst, true≢false, IsTrue, Some, None}
-use Rattle.std.specs.List.{list_any}
-use Rattle.std.proofs.lemmas.Option.{same_Some, none-some}
-use Rattle.std.proofs.lemmas.List.Folds.{list_any-append}
-use Rattle.eco_ids.specs.declared.entity.Entity.{Entity}
-use Rattle.eco_ids.specs.declared.entity.TheConstants.{WITH}
-use Rattle.eco_ids.specs.declared.id.Id.TheVariants as id
-use Rattle.eco_ids.specs.declared.pattern.Part.TheVariants.{Is, Each, Any}
-use Rattle.eco_ids.specs.declared.pattern.Pattern.{Pattern}
-use Rattle.eco_ids.specs.declared.pattern.Pattern.TheVariants.{One, Two}
-use Rattle.eco_ids.specs.Least.{root, next}
-use Rattle.eco_ids.specs.Order.{entity_cmp, entity_eq, has_item}
-use Rattle.eco_ids.specs.Traits.{Reaches}
-use Rattle.eco_ids.specs.World.{WorldState, has}
-use Rattle.eco_ids.proofs.Facts.{or_left, or_parts, or_right}
-use Rattle.eco_ids.proofs.Overlaps.{entity_eq_is, entity_eq_itself}
+use Rattle.eco_systems.proofs.Common.{◌≡◌, Bool, false, ◌||◌, ◌↔◌, ◌⊎◌, inl, inr, List, [], ◌∷◌, ◌++◌, map, refl, sym, ap}
+use Rattle.eco_systems.proofs.Common.{◌∙◌, subst, true≢false, IsTrue, Some, None, list_any, same_Some, none-some, list_any-append, Entity, WITH, Is}
+use Rattle.eco_systems.proofs.Common.{Each, Any, Pattern, One, Two, root, next, entity_cmp, entity_eq, has_item, Reaches, WorldState, has, or_left, or_parts}
+use Rattle.eco_systems.proofs.Common.{or_right, entity_eq_is, entity_eq_itself, SomeOf, BringsPattern, InClosedPatterns, widened}
 use Rattle.eco_systems.specs.Closing.{pattern_head, pattern_with_head, ClosedPasses, ListsClosed, Among}
 use Rattle.eco_systems.proofs.Lists.{some_left, some_right}
-use Rattle.eco_systems.specs.Writes.{SomeOf, BringsPattern, InClosedPatterns, widened}
+use Rattle.eco_ids.specs.declared.id.Id.TheVariants as id
 
 -- ---- the closed patterns of some are those of each
 

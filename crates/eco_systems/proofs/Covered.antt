@@ -1,36 +1,17 @@
 -- What a system's commands touch lies in its closed writes.
-use Rattle.std.proofs.Common.{◌≡◌, Bool, true, false, cond, List, [], ◌∷◌, refl, sym, ap, ◌∙◌, subst, true≢false, IsTrue, ◌⊎◌, inl, inr}
-use Rattle.std.specs.List.{list_any}
-use Rattle.eco_ids.specs.declared.entity.Entity.{Entity}
-use Rattle.eco_ids.specs.declared.entity.TheConstants.{EXCLUSIVE, SYMMETRIC, WITH}
-use Rattle.eco_ids.specs.declared.id.Id.{Id}
-use Rattle.eco_ids.specs.declared.id.Id.TheVariants as id
+use Rattle.eco_systems.proofs.Common.{◌≡◌, Bool, true, false, cond, List, [], ◌∷◌, refl, sym, ap, ◌∙◌, subst, true≢false, IsTrue, ◌⊎◌}
+use Rattle.eco_systems.proofs.Common.{inl, inr, list_any, Entity, EXCLUSIVE, SYMMETRIC, WITH, Id, Is, Each, Any, Pattern, One, Two, First, Second}
+use Rattle.eco_systems.proofs.Common.{has_symmetric, root, next, part_matches, pattern_matches, pattern_overlaps, entity_eq, Command, Create, Add, Remove, Set}
+use Rattle.eco_systems.proofs.Common.{Clear, Rename, Delete, DeleteWith, RemoveAll, Brings, InClosure, WorldState, has, is_symmetric, is_widened, both, first}
+use Rattle.eco_systems.proofs.Common.{second, any_is, or_left, or_parts, or_right, entity_eq_is, entity_eq_itself, overlaps_exactly, Disturbs, SystemModel}
+use Rattle.eco_systems.proofs.Common.{IsDeclared, matches_one, system_reads, is_builtin_trait, SomeOf, InClosedPatterns, widened, IsClosedWrite, writes_trait}
+use Rattle.eco_systems.proofs.Common.{IsTraitWriter, Result, Refusal, Applies}
 use Rattle.eco_ids.specs.declared.pattern.Part.{Part}
-use Rattle.eco_ids.specs.declared.pattern.Part.TheVariants.{Is, Each, Any}
-use Rattle.eco_ids.specs.declared.pattern.Pattern.{Pattern}
-use Rattle.eco_ids.specs.declared.pattern.Pattern.TheVariants.{One, Two}
 use Rattle.eco_ids.specs.declared.edition.Edition.{Edition}
-use Rattle.eco_ids.specs.declared.edition.Edition.TheVariants.{First, Second}
-use Rattle.eco_ids.specs.Edition.{has_symmetric}
-use Rattle.eco_ids.specs.Least.{root, next}
-use Rattle.eco_ids.specs.Matching.{part_matches, pattern_matches, pattern_overlaps}
-use Rattle.eco_ids.specs.Order.{entity_eq}
-use Rattle.eco_ids.specs.Run.{Command, Create, Add, Remove, Set, Clear, Rename, Delete, DeleteWith, RemoveAll}
-use Rattle.eco_ids.specs.Traits.{Brings, InClosure}
-use Rattle.eco_ids.specs.World.{WorldState, has, is_symmetric, is_widened}
-use Rattle.eco_ids.proofs.Ascending.{both, first, second}
-use Rattle.eco_ids.proofs.Facts.{any_is, or_left, or_parts, or_right}
 use Rattle.eco_ids.proofs.Meaning.{closure_least}
-use Rattle.eco_ids.proofs.Overlaps.{entity_eq_is, entity_eq_itself, overlaps_exactly}
-use Rattle.eco_systems.specs.Batches.{Disturbs}
-use Rattle.eco_systems.specs.Systems.{SystemModel, IsDeclared, matches_one, system_reads}
-use Rattle.eco_systems.specs.Writes.{is_builtin_trait}
-use Rattle.eco_systems.specs.Writes.{SomeOf, InClosedPatterns, widened, IsClosedWrite, writes_trait, IsTraitWriter}
-use Rattle.std.proofs.Common.{Result}
-use Rattle.eco_ids.specs.declared.refusal.Refusal.{Refusal}
-use Rattle.eco_ids.specs.Run.{Applies}
 use Rattle.eco_systems.proofs.Steps.{Touches, Given, Goes, IsTwin, Leads, makes_alive_effect, adds_effect, removes_effect, sets_effect, clears_effect}
 use Rattle.eco_systems.proofs.Steps.{renames_effect, deletes_one_effect, deletes_with_effect, removes_all_effect}
+use Rattle.eco_ids.specs.declared.id.Id.TheVariants as id
 
 -- ---- traits
 

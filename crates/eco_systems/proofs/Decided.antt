@@ -1,23 +1,10 @@
 -- The draws of a frame decide what it leads to, and one worker's draws are decided themselves.
-use Rattle.std.proofs.Common.{◌≡◌, ℕ, ◌+◌, Bool, true, false, not, ◌&&◌, List, [], ◌∷◌, ◌++◌, length, refl, sym, ap, ◌∙◌, subst, IsTrue, true≢false}
-use Rattle.std.proofs.Common.{MatchBool, Result, arith, append_assoc}
-use Rattle.std.specs.List.{AllByRecursion}
-use Rattle.std.proofs.lemmas.List.{append_cancel_left}
-use Rattle.std.proofs.lemmas.List.Folds.{list_all-append}
-use Rattle.eco_ids.specs.declared.entity.Entity.{Entity}
-use Rattle.eco_ids.specs.declared.refusal.Refusal.{Refusal}
-use Rattle.eco_ids.specs.Outcome.{Meets, is_out_of_memory}
-use Rattle.eco_ids.specs.Run.{Command, Applies, may_want, Runs}
-use Rattle.eco_ids.specs.World.{WorldState}
-use Rattle.eco_ids.proofs.Ascending.{first, second}
-use Rattle.eco_ids.proofs.Runs.{applies_settled}
-use Rattle.eco_systems.specs.Batches.{AreBatches, joined}
-use Rattle.eco_systems.specs.Frames.{AscendingRuns, BatchDraws, BatchRuns, Goes, InTurn, FrameOutcomes, all_drawn, fresh_from, with_admitted}
-use Rattle.eco_systems.specs.Laws.{DrawsDecide, OneWorkerDecides, TakesOne, was_ample}
-use Rattle.eco_systems.specs.Phases.{in_order}
-use Rattle.eco_systems.specs.Recording.{BatchRecords, PiecesRecord, RowsRecord, pieces_of}
-use Rattle.eco_systems.specs.Rows.{ValuedRow, valued_rows}
-use Rattle.eco_systems.specs.Systems.{SystemModel}
+use Rattle.eco_systems.proofs.Common.{◌≡◌, ℕ, ◌+◌, Bool, true, false, not, ◌&&◌, List, [], ◌∷◌, ◌++◌, length, refl, sym, ap}
+use Rattle.eco_systems.proofs.Common.{◌∙◌, subst, IsTrue, true≢false, MatchBool, Result, arith, append_assoc, AllByRecursion, append_cancel_left}
+use Rattle.eco_systems.proofs.Common.{list_all-append, Entity, Refusal, Meets, is_out_of_memory, Command, Applies, may_want, Runs, WorldState, first, second}
+use Rattle.eco_systems.proofs.Common.{applies_settled, AreBatches, joined, AscendingRuns, BatchDraws, BatchRuns, Goes, InTurn, FrameOutcomes, all_drawn}
+use Rattle.eco_systems.proofs.Common.{fresh_from, with_admitted, DrawsDecide, OneWorkerDecides, TakesOne, was_ample, in_order, BatchRecords, PiecesRecord}
+use Rattle.eco_systems.proofs.Common.{RowsRecord, pieces_of, ValuedRow, valued_rows, SystemModel}
 use Rattle.eco_systems.proofs.Frames.{all_in_order, all_joined}
 use Rattle.eco_systems.proofs.FreshDraws.{fresh_split}
 use Rattle.eco_systems.proofs.Lists.{joined_append}

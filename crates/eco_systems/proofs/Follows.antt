@@ -1,8 +1,6 @@
 -- What follows from a step, put together from its ends.
-use Rattle.std.proofs.Common.{◌≡◌, Bool, true, false, Option, Some, None, MatchOption, MatchBool, Result, Ok, Err, refl, sym, subst}
-use Rattle.eco_ids.specs.declared.refusal.Refusal.{Refusal}
-use Rattle.eco_ids.specs.declared.refusal.Refusal.TheVariants.{OutOfMemory}
-use Rattle.eco_ids.specs.Outcome.{Answers, Refuses, Meets}
+use Rattle.eco_systems.proofs.Common.{◌≡◌, Bool, true, false, Option, Some, None, MatchOption, MatchBool, Result, Ok, Err, refl, sym, subst, Refusal}
+use Rattle.eco_systems.proofs.Common.{OutOfMemory, Answers, Refuses, Meets}
 
 -- P holds of each answer of the step, and the state after it
 pub record Follows {S : Type 0} (P Step : Result (Unit {0}) Refusal → S → Type 0) : Type 0 where

@@ -1,21 +1,13 @@
 -- Frames, pieces and orders that compute: a world in which T and e live, e has T, and a system makes an entity for each row of T.
-use Rattle.std.proofs.Common.{◌≡◌, Bool, true, false, List, [], ◌∷◌, ◌++◌, map, replicate, length, refl, None, Ok}
-use Rattle.eco_ids.specs.declared.entity.Entity.{Entity}
+use Rattle.eco_systems.proofs.Common.{◌≡◌, Bool, true, false, List, [], ◌∷◌, ◌++◌, map, replicate, length, refl, None, Ok, Entity, First}
+use Rattle.eco_systems.proofs.Common.{Living, Create, WorldState, Record, builtin_states, entities, zeros, order_of, BatchDraws, IsFrame, fresh_entity}
+use Rattle.eco_systems.proofs.Common.{pieces_of, ValuedRow, SystemModel}
+use Rattle.eco_query.specs.declared.access.Access.TheVariants.{InOut}
+use Rattle.eco_systems.specs.declared.phase.Phase.TheVariants.{OnLoad, OnUpdate, OnStore}
+use Rattle.eco_systems.proofs.FreshDraws.{ascending_are_fresh}
 use Rattle.eco_ids.specs.declared.id.Id.TheVariants as id
 use Rattle.eco_ids.specs.declared.pattern.Pattern.TheVariants as pattern
 use Rattle.eco_ids.specs.Terms as ask
-use Rattle.eco_ids.specs.declared.edition.Edition.TheVariants.{First}
-use Rattle.eco_ids.specs.Indices.{Living}
-use Rattle.eco_ids.specs.Run.{Create}
-use Rattle.eco_ids.specs.World.{WorldState, Record, builtin_states, entities, zeros}
-use Rattle.eco_query.specs.declared.access.Access.TheVariants.{InOut}
-use Rattle.eco_systems.specs.declared.phase.Phase.TheVariants.{OnLoad, OnUpdate, OnStore}
-use Rattle.eco_systems.specs.Phases.{order_of}
-use Rattle.eco_systems.specs.Frames.{BatchDraws, IsFrame, fresh_entity}
-use Rattle.eco_systems.specs.Recording.{pieces_of}
-use Rattle.eco_systems.specs.Rows.{ValuedRow}
-use Rattle.eco_systems.specs.Systems.{SystemModel}
-use Rattle.eco_systems.proofs.FreshDraws.{ascending_are_fresh}
 
 abbrev with_ids : List id.the_data → Record
 with_ids is = record { name = None; arity = None; held = map (λ i. (i, zeros)) is }

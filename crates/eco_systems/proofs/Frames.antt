@@ -1,37 +1,14 @@
 -- Every frame is the run of its systems one by one.
-use Rattle.std.proofs.Common.{◌≡◌, ℕ, Bool, true, false, cond, List, [], ◌∷◌, ◌++◌, length, refl, sym, ap, ◌∙◌, subst, IsTrue}
-use Rattle.std.proofs.Common.{inl, inr, Option, option_map, unwrap_or, MatchBool, Ok, filter}
-use Rattle.std.specs.Prelude.{flat_map}
-use Rattle.std.specs.List.{AllByRecursion}
-use Rattle.std.specs.Option.{option_and_then}
-use Rattle.std.specs.FinMap.Entries.{find}
-use Rattle.std.proofs.lemmas.List.{append-nil}
-use Rattle.std.proofs.lemmas.List.Folds.{list_any-append}
-use Rattle.eco_ids.proofs.Facts.{or_left}
-use Rattle.eco_ids.specs.declared.entity.Entity.{Entity}
-use Rattle.eco_ids.specs.declared.id.Id.{Id}
-use Rattle.eco_ids.specs.declared.refusal.Refusal.TheVariants.{NoMoreIds}
-use Rattle.eco_ids.specs.Births.{may_admit}
-use Rattle.eco_ids.specs.Indices.{Indexed, admitted}
-use Rattle.eco_ids.specs.Lawful.{IsLawful}
-use Rattle.eco_ids.specs.Matching.{pattern_matches}
-use Rattle.eco_ids.specs.Outcome.{Answers, Refuses}
-use Rattle.eco_ids.specs.Order.{id_cmp}
-use Rattle.eco_ids.specs.Run.{Command, Runs}
-use Rattle.eco_ids.specs.World.{WorldState, Record, entities, record_of}
+use Rattle.eco_systems.proofs.Common.{◌≡◌, ℕ, Bool, true, false, cond, List, [], ◌∷◌, ◌++◌, length, refl, sym, ap, ◌∙◌, subst, IsTrue}
+use Rattle.eco_systems.proofs.Common.{inl, inr, Option, option_map, unwrap_or, MatchBool, Ok, filter, flat_map, AllByRecursion, option_and_then, find}
+use Rattle.eco_systems.proofs.Common.{append-nil, list_any-append, or_left, Entity, Id, NoMoreIds, may_admit, Indexed, admitted, IsLawful, pattern_matches}
+use Rattle.eco_systems.proofs.Common.{Answers, Refuses, id_cmp, Command, Runs, WorldState, Record, entities, record_of, has_in, runs_lawful, reads, Disturbs}
+use Rattle.eco_systems.proofs.Common.{Conflict, AreTogether, AreCut, AreBatches, joined, FrameOutcomes, BatchDraws, all_drawn, BatchRuns, OneByOne}
+use Rattle.eco_systems.proofs.Common.{BatchRunsSolo, InTurn, with_admitted, FramesAreSolo, FramesKeepLawful, StoppedAreSolo, StoppedAtOnceChangesNothing}
+use Rattle.eco_systems.proofs.Common.{in_order, phases, runs_in, Records, PiecesRecord, BatchRecords, pieces_of, SystemModel, IsDeclared, IsLawfulSystem}
+use Rattle.eco_systems.proofs.Common.{system_reads, matches_one, IsTraitWriter, SomeOf}
 use Rattle.eco_ids.proofs.Admits.{admits_lawful, more_free}
-use Rattle.eco_ids.proofs.Keeps.{has_in}
-use Rattle.eco_ids.proofs.Runs.{runs_lawful}
-use Rattle.eco_query.specs.Queries.{reads}
-use Rattle.eco_systems.specs.Batches.{Disturbs, Conflict, AreTogether, AreCut, AreBatches, joined}
-use Rattle.eco_systems.specs.Frames.{FrameOutcomes, BatchDraws, all_drawn, BatchRuns, OneByOne, BatchRunsSolo, InTurn}
-use Rattle.eco_systems.specs.Frames.{with_admitted}
-use Rattle.eco_systems.specs.Laws.{FramesAreSolo, FramesKeepLawful, StoppedAreSolo, StoppedAtOnceChangesNothing}
-use Rattle.eco_systems.specs.Phases.{in_order, phases, runs_in}
 use Rattle.eco_systems.specs.declared.phase.Phase.{Phase}
-use Rattle.eco_systems.specs.Recording.{Records, PiecesRecord, BatchRecords, pieces_of}
-use Rattle.eco_systems.specs.Systems.{SystemModel, IsDeclared, IsLawfulSystem, system_reads, matches_one}
-use Rattle.eco_systems.specs.Writes.{IsTraitWriter, SomeOf}
 use Rattle.eco_systems.proofs.Answers.{Sees, sees_reads}
 use Rattle.eco_systems.proofs.Covered.{TraitsWithin}
 use Rattle.eco_systems.proofs.Lists.{all_append, some_left, some_right}

@@ -1,21 +1,9 @@
 -- A lawful world has a frame of systems whose rows take some draws, or one that stops where the draws would pass the limit.
-use Rattle.std.proofs.Common.{◌≡◌, ℕ, ◌+◌, Bool, true, false, List, [], ◌∷◌, ◌++◌, length, refl, sym, ap, ◌∙◌, subst, ◌⊎◌, inl, inr}
-use Rattle.std.specs.List.{AllByRecursion}
-use Rattle.std.proofs.lemmas.List.{append-nil}
-use Rattle.eco_ids.specs.declared.entity.Entity.{Entity}
-use Rattle.eco_ids.specs.Births.{may_admit}
-use Rattle.eco_ids.specs.Lawful.{IsLawful}
-use Rattle.eco_ids.specs.Run.{Command}
-use Rattle.eco_ids.specs.World.{WorldState, entities}
-use Rattle.eco_ids.proofs.Runs.{runs_lawful}
-use Rattle.eco_systems.specs.Batches.{AreBatches, joined}
-use Rattle.eco_systems.specs.Frames.{BatchDraws, BatchRuns, InTurn, IsFrame, FrameIsStopped, FrameOutcomes, PassesLimit, all_drawn, fresh_from, with_admitted}
-use Rattle.eco_systems.specs.Frames.{AreFresh}
-use Rattle.eco_systems.specs.Laws.{FramesExist, TakesSome}
-use Rattle.eco_systems.specs.Phases.{in_order}
-use Rattle.eco_systems.specs.Recording.{BatchRecords, PiecesRecord, RowsRecord, pieces_of}
-use Rattle.eco_systems.specs.Rows.{ValuedRow, valued_rows}
-use Rattle.eco_systems.specs.Systems.{SystemModel}
+use Rattle.eco_systems.proofs.Common.{◌≡◌, ℕ, ◌+◌, Bool, true, false, List, [], ◌∷◌, ◌++◌, length, refl, sym, ap, ◌∙◌, subst}
+use Rattle.eco_systems.proofs.Common.{◌⊎◌, inl, inr, AllByRecursion, append-nil, Entity, may_admit, IsLawful, Command, WorldState, entities, runs_lawful}
+use Rattle.eco_systems.proofs.Common.{AreBatches, joined, BatchDraws, BatchRuns, InTurn, IsFrame, FrameIsStopped, FrameOutcomes, PassesLimit, all_drawn}
+use Rattle.eco_systems.proofs.Common.{fresh_from, with_admitted, AreFresh, FramesExist, TakesSome, in_order, BatchRecords, PiecesRecord, RowsRecord, pieces_of}
+use Rattle.eco_systems.proofs.Common.{ValuedRow, valued_rows, SystemModel}
 use Rattle.eco_systems.proofs.BatchesExist.{batches_of}
 use Rattle.eco_systems.proofs.Frames.{all_in_order, all_joined, lawful_admitted}
 use Rattle.eco_systems.proofs.FreshDraws.{ascending_are_fresh, fresh_length, fresh_split}

@@ -1,21 +1,12 @@
 -- Draws that ascend over all pieces, from the number known on, are fresh.
-use Rattle.std.proofs.Common.{◌≡◌, ℕ, zero, suc, ◌+◌, ◌<◌, ◌≤◌, not, ◌||◌, List, [], ◌∷◌, ◌++◌, length, refl, sym, ap, ◌∙◌, subst}
-use Rattle.std.proofs.Common.{is_lt, true≢false, Less, IsTrue, inl, inr, arith}
-use Rattle.std.specs.List.{list_all, AllByRecursion}
+use Rattle.eco_systems.proofs.Common.{◌≡◌, ℕ, zero, suc, ◌+◌, ◌<◌, ◌≤◌, not, ◌||◌, List, [], ◌∷◌, ◌++◌, length, refl, sym}
+use Rattle.eco_systems.proofs.Common.{ap, ◌∙◌, subst, is_lt, true≢false, Less, IsTrue, inl, inr, arith, list_all, AllByRecursion, cases_eq}
+use Rattle.eco_systems.proofs.Common.{list_all-append, off, Entity, entity_cmp, entity_eq, has_item, is_ascending, both, first, second, or_left, or_parts}
+use Rattle.eco_systems.proofs.Common.{or_right, entity_eq_is, entity_eq_itself, joined, AreAscending, AreFresh, BatchDraws, all_drawn, fresh_entity, fresh_from}
 use Rattle.std.specs.Cmp.{nat_cmp_is}
 use Rattle.std.specs.Ordering.{nat_cmp, ordering_then}
-use Rattle.std.proofs.lemmas.Bool.{cases_eq}
-use Rattle.std.proofs.lemmas.List.Folds.{list_all-append}
-use Rattle.eco_ids.proofs.Facts.{off}
-use Rattle.eco_ids.specs.declared.entity.Entity.{Entity}
 use Rattle.eco_ids.specs.Layout.{is_distinct}
-use Rattle.eco_ids.specs.Order.{entity_cmp, entity_eq, has_item, is_ascending}
-use Rattle.eco_ids.proofs.Ascending.{both, first, second}
-use Rattle.eco_ids.proofs.Facts.{or_left, or_parts, or_right}
-use Rattle.eco_ids.proofs.Overlaps.{entity_eq_is, entity_eq_itself}
 use Rattle.eco_ids.proofs.States.{same_parts}
-use Rattle.eco_systems.specs.Batches.{joined}
-use Rattle.eco_systems.specs.Frames.{AreAscending, AreFresh, BatchDraws, all_drawn, fresh_entity, fresh_from}
 
 abbrev IsIn : ℕ → ℕ → Entity → Type 0
 IsIn a n e = (e.generation ≡ 0) × (a ≤ e.index) × (e.index < a + n)

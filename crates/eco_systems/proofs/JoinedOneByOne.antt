@@ -1,15 +1,8 @@
 -- Systems that are joined one by one are cut as the batches are.
-use Rattle.std.proofs.Common.{◌≡◌, Bool, true, false, cond, ◌↔◌, List, [], ◌∷◌, ◌++◌, map, refl, sym, ap, ◌∙◌, subst, true≢false, IsTrue, IsFalse}
-use Rattle.std.proofs.Common.{append_assoc}
-use Rattle.std.specs.List.{list_any}
-use Rattle.std.proofs.lemmas.List.{append-nil, map-append}
+use Rattle.eco_systems.proofs.Common.{◌≡◌, Bool, true, false, cond, ◌↔◌, List, [], ◌∷◌, ◌++◌, map, refl, sym, ap, ◌∙◌, subst}
+use Rattle.eco_systems.proofs.Common.{true≢false, IsTrue, IsFalse, append_assoc, list_any, append-nil, map-append, WorldState, Conflict, AreTogether, AreCut}
+use Rattle.eco_systems.proofs.Common.{AreBatches, joined, batched, JoiningMakesBatches, SystemModel, SomeOf}
 use Rattle.eco_systems.proofs.Lists.{some_exact}
-use Rattle.eco_ids.specs.World.{WorldState}
-use Rattle.eco_systems.specs.Batches.{Conflict, AreTogether, AreCut, AreBatches, joined}
-use Rattle.eco_systems.specs.Joining.{batched}
-use Rattle.eco_systems.specs.Laws.{JoiningMakesBatches}
-use Rattle.eco_systems.specs.Systems.{SystemModel}
-use Rattle.eco_systems.specs.Writes.{SomeOf}
 
 module _ (w : WorldState) (before : List SystemModel) (t : SystemModel) where
   -- nobody of these conflicts with t, which comes after them

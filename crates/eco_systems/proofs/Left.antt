@@ -1,11 +1,6 @@
 -- A frame that stopped has batches left, unless its systems have none.
-use Rattle.std.proofs.Common.{◌≡◌, ℕ, suc, ◌<◌, ◌⊎◌, inl, inr, List, [], ◌∷◌, ◌++◌, length, refl, ap, ◌∙◌, arith}
-use Rattle.std.proofs.lemmas.List.{append-nil, length-append}
-use Rattle.eco_ids.specs.World.{WorldState}
-use Rattle.eco_systems.specs.Frames.{BatchDraws, InTurn, FrameOutcomes}
-use Rattle.eco_systems.specs.Laws.{StoppedHaveMore}
-use Rattle.eco_systems.specs.Phases.{in_order}
-use Rattle.eco_systems.specs.Systems.{SystemModel}
+use Rattle.eco_systems.proofs.Common.{◌≡◌, ℕ, suc, ◌<◌, ◌⊎◌, inl, inr, List, [], ◌∷◌, ◌++◌, length, refl, ap, ◌∙◌, arith}
+use Rattle.eco_systems.proofs.Common.{append-nil, length-append, WorldState, BatchDraws, InTurn, FrameOutcomes, StoppedHaveMore, in_order, SystemModel}
 use Rattle.eco_systems.proofs.OneCut.{batches_unique}
 
 -- each batch that ran has its draws

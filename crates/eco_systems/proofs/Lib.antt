@@ -1,3 +1,4 @@
+pub mod Common
 pub mod Answers
 mod BatchesExist
 pub mod ClosedLists

@@ -1,20 +1,9 @@
 -- Lists that are filtered, searched and gathered.
-use Rattle.std.proofs.Common.{◌≡◌, Bool, true, false, cond, ◌&&◌, ◌||◌, List, [], ◌∷◌, ◌++◌, map, filter, refl, sym, ap, ◌∙◌, IsTrue}
-use Rattle.std.specs.Prelude.{flat_map}
-use Rattle.std.specs.List.{list_any, AllByRecursion}
-use Rattle.std.proofs.lemmas.List.{map-append}
-use Rattle.std.proofs.Common.{true≢false, ◌↔◌}
-use Rattle.std.proofs.lemmas.Bool.Decides.{Decides-or}
-use Rattle.eco_ids.specs.declared.id.Id.{Id}
-use Rattle.eco_ids.specs.Order.{id_cmp, id_eq, has_item, is_ascending}
-use Rattle.eco_ids.proofs.Ascending.{ascending_filter}
-use Rattle.eco_ids.proofs.Facts.{id_eq_is}
-use Rattle.eco_ids.proofs.IdOrder.{id_cmp_total, same_id}
+use Rattle.eco_systems.proofs.Common.{◌≡◌, Bool, true, false, cond, ◌&&◌, ◌||◌, List, [], ◌∷◌, ◌++◌, map, filter, refl, sym, ap}
+use Rattle.eco_systems.proofs.Common.{◌∙◌, IsTrue, flat_map, list_any, AllByRecursion, map-append, true≢false, ◌↔◌, Decides-or, Id, id_cmp, id_eq}
+use Rattle.eco_systems.proofs.Common.{has_item, is_ascending, ascending_filter, id_eq_is, id_cmp_total, same_id, append_assoc, inl, inr, arith, joined, SomeOf}
 use Rattle.eco_ids.proofs.Members.{same_members}
-use Rattle.std.proofs.Common.{append_assoc, inl, inr, arith}
 use Rattle.std.proofs.lemmas.Grind.{common_steps}
-use Rattle.eco_systems.specs.Batches.{joined}
-use Rattle.eco_systems.specs.Writes.{SomeOf}
 
 -- a filter by two tests is a filter after a filter
 pub filter_both : {A : Type 0} (q r : A → Bool) (xs : List A) → filter (λ x. q x && r x) xs ≡ filter r (filter q xs)

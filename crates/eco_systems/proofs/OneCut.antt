@@ -1,10 +1,6 @@
 -- There is one way to cut systems into batches.
-use Rattle.std.proofs.Common.{◌≡◌, List, [], ◌∷◌, ◌++◌, refl, sym, ap, ◌∙◌, subst}
-use Rattle.std.proofs.lemmas.List.{append-nil, append_assoc}
-use Rattle.eco_ids.specs.World.{WorldState}
-use Rattle.eco_systems.specs.Batches.{Conflict, AreTogether, AreCut, AreBatches, joined}
-use Rattle.eco_systems.specs.Systems.{SystemModel}
-use Rattle.eco_systems.specs.Writes.{SomeOf}
+use Rattle.eco_systems.proofs.Common.{◌≡◌, List, [], ◌∷◌, ◌++◌, refl, sym, ap, ◌∙◌, subst, append-nil, append_assoc, WorldState, Conflict}
+use Rattle.eco_systems.proofs.Common.{AreTogether, AreCut, AreBatches, joined, SystemModel, SomeOf}
 
 -- ---- lists that are equal begin alike
 

@@ -1,9 +1,6 @@
 -- The order in which systems run, as positions of declaration.
-use Rattle.std.proofs.Common.{◌≡◌, ℕ, suc, ◌+◌, true, false, cond, List, [], ◌∷◌, ◌++◌, map, filter, refl, sym, ap, ◌∙◌, Option, Some, slice_get, arith}
-use Rattle.std.specs.Prelude.{flat_map}
-use Rattle.std.proofs.lemmas.List.{map-append}
-use Rattle.eco_systems.specs.Phases.{in_order, order_of, phases, positions_from, runs_in}
-use Rattle.eco_systems.specs.Systems.{SystemModel}
+use Rattle.eco_systems.proofs.Common.{◌≡◌, ℕ, suc, ◌+◌, true, false, cond, List, [], ◌∷◌, ◌++◌, map, filter, refl, sym, ap, ◌∙◌}
+use Rattle.eco_systems.proofs.Common.{Option, Some, slice_get, arith, flat_map, map-append, in_order, order_of, phases, positions_from, runs_in, SystemModel}
 use Rattle.eco_systems.specs.declared.phase.Phase.{Phase}
 
 -- at the positions of a phase stand its systems, where from n on stand `systems`

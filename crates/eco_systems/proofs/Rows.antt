@@ -1,23 +1,12 @@
 -- A query's rows with values are the same on worlds that look the same through what it reads.
-use Rattle.std.proofs.Common.{◌≡◌, ℕ, suc, ◌+◌, Bool, true, false, cond, ◌==◌, T, List, [], ◌∷◌, ◌++◌, map, refl, sym, ap, ◌∙◌, subst, ◌⊎◌, inl, inr}
-use Rattle.std.proofs.Common.{Option, Some, None, is_some, option_map, unwrap_or, slice_get, arith, eqb-true}
-use Rattle.std.specs.Prelude.{flat_map}
-use Rattle.std.specs.List.{AllByRecursion}
-use Rattle.std.specs.FinMap.Entries.{is_sorted}
+use Rattle.eco_systems.proofs.Common.{◌≡◌, ℕ, suc, ◌+◌, Bool, true, false, cond, ◌==◌, T, List, [], ◌∷◌, ◌++◌, map, refl, sym, ap}
+use Rattle.eco_systems.proofs.Common.{◌∙◌, subst, ◌⊎◌, inl, inr, Option, Some, None, is_some, option_map, unwrap_or, slice_get, arith, eqb-true}
+use Rattle.eco_systems.proofs.Common.{flat_map, AllByRecursion, is_sorted, Entity, Id, Value, value_of, IndexState, Retired, Free, Living, record_in}
+use Rattle.eco_systems.proofs.Common.{living_from, IsLawful, id_cmp, WorldState, Record, held_by, living, record_of, record_apart, QuerySlot, HasPositive}
+use Rattle.eco_systems.proofs.Common.{ValuedRow, entry_value, entry_values, valued, valued_rows, shows_values}
 use Rattle.eco_ids.proofs.States.{record_here}
-use Rattle.eco_ids.specs.declared.entity.Entity.{Entity}
-use Rattle.eco_ids.specs.declared.id.Id.{Id}
-use Rattle.eco_ids.specs.declared.value.Value.{Value}
 use Rattle.eco_ids.specs.Answer.{Row, choices}
-use Rattle.eco_ids.specs.Data.{value_of}
-use Rattle.eco_ids.specs.Indices.{IndexState, Retired, Free, Living, record_in, living_from}
-use Rattle.eco_ids.specs.Lawful.{IsLawful}
-use Rattle.eco_ids.specs.Order.{id_cmp}
-use Rattle.eco_ids.specs.World.{WorldState, Record, held_by, living, record_of}
 use Rattle.eco_ids.proofs.Exact.{keys, keys_find, keys_ascending}
-use Rattle.eco_ids.proofs.Records.{record_apart}
-use Rattle.eco_query.specs.Queries.{QuerySlot, HasPositive}
-use Rattle.eco_systems.specs.Rows.{ValuedRow, entry_value, entry_values, valued, valued_rows, shows_values}
 use Rattle.eco_systems.proofs.Answers.{asked, Sees, Alike, IsRead, choices_alike, choices_read, no_choices}
 use Rattle.std.proofs.lemmas.Simd.{map-map}
 use Rattle.eco_systems.proofs.Lists.{same_mapped, map_gathered}

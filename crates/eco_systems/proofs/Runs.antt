@@ -1,16 +1,7 @@
 -- What the commands of a system leave as it was.
-use Rattle.std.proofs.Common.{◌≡◌, List, [], ◌∷◌, ◌++◌, refl, sym, ap, ◌∙◌, subst, IsTrue, ◌⊎◌, inl, inr}
-use Rattle.std.specs.List.{AllByRecursion}
-use Rattle.eco_ids.specs.declared.entity.Entity.{Entity}
-use Rattle.eco_ids.specs.declared.id.Id.{Id}
-use Rattle.eco_ids.specs.Run.{Command, may_want, Runs}
-use Rattle.eco_ids.specs.World.{WorldState, has}
-use Rattle.eco_systems.specs.Batches.{Disturbs}
-use Rattle.eco_systems.specs.Frames.{FrameOutcomes}
-use Rattle.eco_systems.specs.Recording.{RowsRecord, PiecesRecord, Records, pieces_of}
-use Rattle.eco_systems.specs.Rows.{ValuedRow, valued_rows}
-use Rattle.eco_systems.specs.Systems.{SystemModel, IsLawfulSystem, IsDeclared, system_reads, matches_one}
-use Rattle.eco_systems.specs.Writes.{IsTraitWriter}
+use Rattle.eco_systems.proofs.Common.{◌≡◌, List, [], ◌∷◌, ◌++◌, refl, sym, ap, ◌∙◌, subst, IsTrue, ◌⊎◌, inl, inr, AllByRecursion}
+use Rattle.eco_systems.proofs.Common.{Entity, Id, Command, may_want, Runs, WorldState, has, Disturbs, FrameOutcomes, RowsRecord, PiecesRecord, Records}
+use Rattle.eco_systems.proofs.Common.{pieces_of, ValuedRow, valued_rows, SystemModel, IsLawfulSystem, IsDeclared, system_reads, matches_one, IsTraitWriter}
 use Rattle.eco_systems.proofs.Covered.{IsTraitId, TraitsWithin, Written, applies_effect, no_traits, read_untouched}
 use Rattle.eco_systems.proofs.Follows.{meets}
 use Rattle.eco_systems.proofs.Lists.{all_append}

@@ -1,38 +1,16 @@
 -- From a lawful world commands have a run in which no memory is wanting.
-use Rattle.std.proofs.Common.{◌≡◌, Bool, true, false, cond, ◌&&◌, List, [], ◌∷◌, refl, ap, ◌∙◌, subst, IsTrue, Option, Some, None}
-use Rattle.std.proofs.Common.{option_map, MatchOption, MatchBool, Result, Ok, Err}
-use Rattle.std.specs.List.{list_any}
-use Rattle.eco_ids.specs.declared.entity.Entity.{Entity}
-use Rattle.eco_ids.specs.declared.id.Id.{Id}
-use Rattle.eco_ids.specs.declared.refusal.Refusal.{Refusal}
-use Rattle.eco_ids.specs.declared.refusal.Refusal.TheVariants.{Reserved, NotAPolicy, InUse, Cycle}
-use Rattle.eco_ids.specs.declared.refusal.Refusal.TheVariants.{Taken, TraitClash}
-use Rattle.eco_ids.specs.Births.{bare}
-use Rattle.eco_ids.specs.Builtin.{is_builtin, is_builtins}
-use Rattle.eco_ids.specs.Indices.{Indexed, is_free_at}
+use Rattle.eco_systems.proofs.Common.{◌≡◌, Bool, true, false, cond, ◌&&◌, List, [], ◌∷◌, refl, ap, ◌∙◌, subst, IsTrue, Option, Some, None}
+use Rattle.eco_systems.proofs.Common.{option_map, MatchOption, MatchBool, Result, Ok, Err, list_any, Entity, Id, Refusal, Reserved, NotAPolicy, InUse, Cycle}
+use Rattle.eco_systems.proofs.Common.{Taken, TraitClash, bare, is_builtin, is_builtins, Indexed, is_free_at, option_or, Deletes, late_traits, IsLawful}
+use Rattle.eco_systems.proofs.Common.{entity_eq, id_eq, Refuses, Meets, is_out_of_memory, Command, Create, Add, Remove, Set, Clear, Rename, Delete, DeleteWith}
+use Rattle.eco_systems.proofs.Common.{RemoveAll, Applies, may_want, Runs, WorldState, Record, entities, has, applies_lawful, applies_settled, none-some}
+use Rattle.eco_systems.proofs.Common.{same_Some, MakesAliveWith, RenamesWith, Ends, OnEntities, rules, FrameOutcomes, RefusedCommandsChangeNothing}
 use Rattle.eco_ids.specs.Mirrors.{has_clash}
-use Rattle.std.specs.Option.{option_or}
-use Rattle.eco_ids.specs.Cleanup.{Deletes}
-use Rattle.eco_ids.specs.Edition.{late_traits}
-use Rattle.eco_ids.specs.Lawful.{IsLawful}
-use Rattle.eco_ids.specs.Order.{entity_eq, id_eq}
-use Rattle.eco_ids.specs.Outcome.{Refuses, Meets, is_out_of_memory}
-use Rattle.eco_ids.specs.Run.{Command, Create, Add, Remove, Set, Clear, Rename, Delete, DeleteWith, RemoveAll, Applies, may_want, Runs}
 use Rattle.eco_ids.specs.Step.{Extends, Judges, is_late, is_wrong_policy, unfit_actor, IsFirstCycle, unfit, unfit_set, unfit_rename, changed, grown, unchanged}
 use Rattle.eco_ids.specs.Step.{with_name, with_value}
-use Rattle.eco_ids.specs.World.{WorldState, Record, entities, has}
 use Rattle.eco_ids.proofs.Endings.{End}
-use Rattle.eco_ids.proofs.Runs.{applies_lawful, applies_settled}
 use Rattle.eco_ids.proofs.StepsEnd.{adds_end, deletes_one_end, deletes_with_end, loses_end, makes_alive_end, removes_all_end, renames_end, sets_end}
-use Rattle.std.proofs.lemmas.Option.{none-some, same_Some}
-use Rattle.eco_ids.specs.Births.{MakesAliveWith}
-use Rattle.eco_ids.specs.Renaming.{RenamesWith}
-use Rattle.eco_ids.specs.Cleanup.{Ends}
-use Rattle.eco_ids.specs.World.{OnEntities}
-use Rattle.std.proofs.Common.{rules}
-use Rattle.eco_systems.specs.Frames.{FrameOutcomes}
 use Rattle.eco_systems.proofs.Follows.{Follows, from_answer, from_refusal, unless, either, meets}
-use Rattle.eco_systems.specs.Laws.{RefusedCommandsChangeNothing}
 
 -- the answer isn't that memory is wanting
 abbrev IsAmple : {S : Type 0} → Result (Unit {0}) Refusal → S → Type 0

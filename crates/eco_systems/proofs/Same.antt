@@ -1,13 +1,7 @@
 -- Worlds that look the same through a test of ids.
-use Rattle.std.proofs.Common.{◌≡◌, Bool, cond, refl, ◌∙◌, IsTrue, None, is_some}
-use Rattle.std.specs.FinMap.Entries.{find}
-use Rattle.eco_ids.specs.declared.entity.Entity.{Entity}
-use Rattle.eco_ids.specs.declared.id.Id.{Id}
+use Rattle.eco_systems.proofs.Common.{◌≡◌, Bool, cond, refl, ◌∙◌, IsTrue, None, is_some, find, Entity, Id, arity_of, arity, value_of, id_cmp}
+use Rattle.eco_systems.proofs.Common.{WorldState, held_by, same_arity}
 use Rattle.eco_ids.specs.declared.id.Id.TheVariants.{One, Two}
-use Rattle.eco_ids.specs.Data.{arity_of, arity, value_of}
-use Rattle.eco_ids.specs.Order.{id_cmp}
-use Rattle.eco_ids.specs.World.{WorldState, held_by}
-use Rattle.eco_ids.proofs.Keeps.{same_arity}
 
 -- each entity has the same arity, and the same value for each id that the test sees
 pub record LooksSame (seen : Id → Bool) (w new : WorldState) : Type 0 where

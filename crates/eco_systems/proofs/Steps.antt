@@ -1,52 +1,26 @@
 -- What each command leaves as it was, and what it may give.
-use Rattle.std.proofs.Common.{◌≡◌, ℕ, Bool, true, false, cond, not, ◌&&◌, ◌||◌, List, [], refl, sym, ap, ◌∙◌, subst, true≢false, IsTrue, ◌⊎◌, inl, inr}
-use Rattle.std.proofs.Common.{Option, Some, None, is_some, option_map, unwrap_or, slice_get, MatchOption, MatchBool, Result, Ok, Err}
-use Rattle.std.specs.List.{list_any}
-use Rattle.std.specs.Option.{option_or, option_and_then}
-use Rattle.std.specs.FinMap.Entries.{find, find-put}
-use Rattle.std.proofs.Common.{arith}
-use Rattle.std.proofs.lemmas.Bool.{and_right}
+use Rattle.eco_systems.proofs.Common.{◌≡◌, ℕ, Bool, true, false, cond, not, ◌&&◌, ◌||◌, List, [], refl, sym, ap, ◌∙◌, subst, true≢false}
+use Rattle.eco_systems.proofs.Common.{IsTrue, ◌⊎◌, inl, inr, Option, Some, None, is_some, option_map, unwrap_or, slice_get, MatchOption, MatchBool}
+use Rattle.eco_systems.proofs.Common.{Result, Ok, Err, list_any, option_or, option_and_then, find, find-put, arith, and_right, slice_get_within, off}
+use Rattle.eco_systems.proofs.Common.{OnEntities, MakesAliveWith, is_builtin, RenamesWith, first, second, Entity, Id, Refusal, Reserved, Taken, Value, bare}
+use Rattle.eco_systems.proofs.Common.{MakesAlive, is_builtins, Deletes, Ends, names_any, arity_of, Indexed, IndexState, Retired, Free, Living, record_in}
+use Rattle.eco_systems.proofs.Common.{is_free_at, is_free_in, root, id_cmp, entity_cmp, entity_eq, id_eq, has_item, Answers, Refuses, InClosure, WorldState}
+use Rattle.eco_systems.proofs.Common.{Record, has, held_by, is_exclusive, is_symmetric, zeros, entities, with_entities, with_record, record_of, id_eq_is}
+use Rattle.eco_systems.proofs.Common.{id_eq_itself, same_or_apart, any_is, id_cmp_total, has_in, some_of, entity_eq_is, IsWrite, write_known, open_living}
 use Rattle.std.proofs.lemmas.Grind.{common_steps}
-use Rattle.std.proofs.lemmas.Option.{slice_get_within}
 use Rattle.eco_ids.proofs.Births.{free_state}
-use Rattle.eco_ids.proofs.Facts.{off}
-use Rattle.eco_ids.specs.World.{OnEntities}
-use Rattle.eco_ids.specs.Births.{MakesAliveWith}
-use Rattle.eco_ids.specs.Builtin.{is_builtin}
-use Rattle.eco_ids.specs.Renaming.{RenamesWith}
-use Rattle.eco_ids.proofs.Ascending.{first, second}
 use Rattle.eco_systems.proofs.Follows.{Follows, from_answer, from_refusal, unless, either}
-use Rattle.eco_ids.specs.declared.entity.Entity.{Entity}
-use Rattle.eco_ids.specs.declared.id.Id.{Id}
 use Rattle.eco_ids.specs.declared.id.Id.TheVariants.{One, Two}
-use Rattle.eco_ids.specs.declared.refusal.Refusal.{Refusal}
-use Rattle.eco_ids.specs.declared.refusal.Refusal.TheVariants.{Reserved, Taken}
-use Rattle.eco_ids.specs.declared.value.Value.{Value}
-use Rattle.eco_ids.specs.Births.{bare, MakesAlive}
-use Rattle.eco_ids.specs.Builtin.{is_builtins}
-use Rattle.eco_ids.specs.Cleanup.{Deletes, Ends, names_any}
-use Rattle.eco_ids.specs.Data.{arity_of}
 use Rattle.eco_ids.specs.Delete.{DeletesOne, DeletesWith}
-use Rattle.eco_ids.specs.Indices.{Indexed, IndexState, Retired, Free, Living, record_in, is_free_at, is_free_in}
-use Rattle.eco_ids.specs.Indices as indexed
-use Rattle.eco_ids.specs.Least.{root}
 use Rattle.eco_ids.specs.Losses.{keeping, nobody, without}
 use Rattle.eco_ids.specs.Mirrors.{mirror_of, at_mirror, goes_too}
-use Rattle.eco_ids.specs.Order.{id_cmp, entity_cmp, entity_eq, id_eq, has_item}
-use Rattle.eco_ids.specs.Outcome.{Answers, Refuses}
-use Rattle.eco_ids.specs.Step.{changed, with_name, with_value, with_closure, grown, unchanged, unfit, unfit_set, unfit_actor, unfit_rename, Extends}
-use Rattle.eco_ids.specs.Step.{with_id, with_mirror, Adds, Sets, Removes, Clears, Renames, RemovesAll, IsClosure, is_replaced, is_pair_of}
-use Rattle.eco_ids.specs.Traits.{InClosure}
-use Rattle.eco_ids.specs.World.{WorldState, Record, has, held_by, is_exclusive, is_symmetric, zeros, entities, with_entities, with_record, record_of}
+use Rattle.eco_ids.specs.Step.{changed, with_name, with_value, with_closure, grown, unchanged, unfit, unfit_set, unfit_actor, unfit_rename, Extends, with_id}
+use Rattle.eco_ids.specs.Step.{with_mirror, Adds, Sets, Removes, Clears, Renames, RemovesAll, IsClosure, is_replaced, is_pair_of}
 use Rattle.eco_ids.proofs.Closures.{find_kept, zero_entry}
 use Rattle.eco_ids.proofs.Exact.{closure_find, zero_find}
-use Rattle.eco_ids.proofs.Facts.{id_eq_is, id_eq_itself, same_or_apart, any_is}
-use Rattle.eco_ids.proofs.IdOrder.{id_cmp_total}
-use Rattle.eco_ids.proofs.Keeps.{has_in, some_of}
 use Rattle.eco_ids.proofs.Losses.{record_left}
 use Rattle.eco_ids.proofs.Mirrors.{mirror_parts}
-use Rattle.eco_ids.proofs.Overlaps.{entity_eq_is}
-use Rattle.eco_ids.proofs.Records.{IsWrite, write_known, open_living}
+use Rattle.eco_ids.specs.Indices as indexed
 
 -- the ids of a record, and its arity
 abbrev held_in : Option Record → List (Id × Value)

@@ -1,11 +1,8 @@
 -- All tables once more, without room.
-use Rattle.std.proofs.Common.{◌≡◌, ℕ, zero, suc, ◌+◌, ◌≤◌, ◌<◌, ◌++◌, take, get_or, cond, List, [], ◌∷◌}
-use Rattle.std.proofs.Common.{length, Option, Some, None, unwrap_or, is_some, map, refl, sym, ap, ◌∙◌, arith, subst}
-use Rattle.std.specs.List.{count_by}
-use Rattle.std.proofs.lemmas.List.{length-map, map-append, take_more}
+use Rattle.eco_tables.proofs.Common.{◌≡◌, ℕ, zero, suc, ◌+◌, ◌≤◌, ◌<◌, ◌++◌, take, get_or, cond, List, [], ◌∷◌, length, Option}
+use Rattle.eco_tables.proofs.Common.{Some, None, unwrap_or, is_some, map, refl, sym, ap, ◌∙◌, arith, subst, count_by, length-map, map-append, take_more}
+use Rattle.eco_tables.proofs.Common.{TableState, RowsHaveIds, slot_of, no_table, without_room, AreSlots}
 use Rattle.std.proofs.lemmas.List.Recursion.{is_count_by}
-use Rattle.eco_tables.specs.Table.{TableState, RowsHaveIds}
-use Rattle.eco_tables.specs.Tables.{slot_of, no_table, without_room, AreSlots}
 
 pub slot_copied : (slots : List (Option TableState)) (n : ℕ) → slot_of (map without_room slots) n ≡ without_room (slot_of slots n)
 slot_copied [] n = refl

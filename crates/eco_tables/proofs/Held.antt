@@ -1,23 +1,13 @@
 -- Columns, read by rows: they ascend by their ids, so an id is found where its column is.
-use Rattle.std.proofs.Common.{◌≡◌, ℕ, zero, suc, ◌+◌, ◌<◌, ◌≤◌, Bool, true, false, cond, ◌||◌, List, [], ◌∷◌, ◌++◌, map, length, get_or, take, drop, set}
-use Rattle.std.proofs.Common.{slice_get, Option, Some, None, refl, sym, ap, ◌∙◌, arith, IsTrue, subst, Less, Equal, Greater, inl, inr}
-use Rattle.std.specs.List.{All, list_all, position_from}
+use Rattle.eco_tables.proofs.Common.{◌≡◌, ℕ, zero, suc, ◌+◌, ◌<◌, ◌≤◌, Bool, true, false, cond, ◌||◌, List, [], ◌∷◌, ◌++◌}
+use Rattle.eco_tables.proofs.Common.{map, length, get_or, take, drop, set, slice_get, Option, Some, None, refl, sym, ap, ◌∙◌, arith, IsTrue, subst, Less}
+use Rattle.eco_tables.proofs.Common.{Equal, Greater, inl, inr, All, list_all, position_from, ordering_reverse, is_lt, is_eq, append-nil, drop-set-lt, drop_all}
+use Rattle.eco_tables.proofs.Common.{take_all, get_or_default, get_or-map, length-map, map-set, take_more_set, All-set, All-push, cases_order, find, Id, Value}
+use Rattle.eco_tables.proofs.Common.{id_cmp, id_eq, has_item, is_ascending, id_eq_sym, equal_tie, same_id, ColumnState, contents, column_with_value, written}
 use Rattle.std.specs.Cmp.{tied_itself}
-use Rattle.std.specs.Ordering.{ordering_reverse, is_lt, is_eq}
-use Rattle.std.proofs.lemmas.List.{append-nil, drop-set-lt, drop_all, take_all, get_or_default, get_or-map, length-map, map-set, take_more_set}
-use Rattle.std.proofs.lemmas.List.Elements.{All-set, All-push}
-use Rattle.std.proofs.lemmas.Bool.{cases_order}
 use Rattle.std.proofs.lemmas.List.Edits.{map_over_more}
-use Rattle.std.specs.FinMap.Entries.{find}
-use Rattle.eco_ids.specs.declared.id.Id.{Id}
-use Rattle.eco_ids.specs.declared.value.Value.{Value}
-use Rattle.eco_ids.specs.Order.{id_cmp, id_eq, has_item, is_ascending}
 use Rattle.eco_ids.specs.OrderLaws.{id_cmp_total}
 use Rattle.eco_ids.proofs.Ascending.{all_at, first, second, less}
-use Rattle.eco_ids.proofs.Exact.{id_eq_sym}
-use Rattle.eco_ids.proofs.Facts.{equal_tie}
-use Rattle.eco_ids.proofs.IdOrder.{same_id}
-use Rattle.eco_tables.specs.Column.{ColumnState, contents, column_with_value, written}
 
 -- an id that is above all others is none of them
 pub above-other : (cs : List ColumnState) (i : ℕ) (j : Id) (d : ColumnState) → i < length cs

@@ -1,12 +1,7 @@
 -- Which ids a table keeps fields of.
-use Rattle.std.proofs.Common.{◌≡◌, ℕ, ◌<◌, ◌≤◌, Bool, true, false, if◌then◌else◌, List, map, length, get_or, Option, Some, None, unwrap_or, MatchOption}
-use Rattle.std.proofs.Common.{refl, subst, sym, ap, ◌∙◌, arith}
-use Rattle.std.specs.FinMap.Entries.{find}
-use Rattle.eco_ids.specs.declared.entity.Entity.{Entity}
-use Rattle.eco_ids.specs.declared.id.Id.{Id}
-use Rattle.eco_ids.specs.Order.{id_cmp, has_item}
-use Rattle.eco_tables.specs.Column.{ColumnState, kind_of}
-use Rattle.eco_tables.specs.Table.{TableRow, rows_of, paired, width_among, AreKinds, HasShape}
+use Rattle.eco_tables.proofs.Common.{◌≡◌, ℕ, ◌<◌, ◌≤◌, Bool, true, false, if◌then◌else◌, List, map, length, get_or, Option, Some, None}
+use Rattle.eco_tables.proofs.Common.{unwrap_or, MatchOption, refl, subst, sym, ap, ◌∙◌, arith, find, Entity, Id, id_cmp, has_item, ColumnState, kind_of}
+use Rattle.eco_tables.proofs.Common.{TableRow, rows_of, paired, width_among, AreKinds, HasShape}
 use Rattle.eco_tables.proofs.Rows.{ids_of_kinds, no_width, none_read, widthless_in, within_ids}
 use Rattle.eco_tables.proofs.Widths.{width-each}
 

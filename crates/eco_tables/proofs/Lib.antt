@@ -1,3 +1,4 @@
+pub mod Common
 pub mod Copies
 pub mod Held
 pub mod Kept

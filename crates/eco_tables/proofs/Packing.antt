@@ -1,13 +1,9 @@
 -- What is kept of values, under the whole values.
-use Rattle.std.proofs.Common.{◌≡◌, ℕ, ℤ, ◌-◌, ◌+◌, ◌++◌, ◌≤◌, ◌<◌, Bool, true, if◌then◌else◌, List, length, get_or, set, take, map, sym, ap}
-use Rattle.std.proofs.Common.{◌∙◌, arith, pos, replicate}
-use Rattle.std.specs.List.{swap_remove}
-use Rattle.std.proofs.lemmas.List.{map-set, get_or-map, length-map, take-map, take_at, take_all, map-append, length-replicate, replicate-append-replicate}
-use Rattle.eco_ids.specs.declared.value.Value.{Value}
+use Rattle.eco_tables.proofs.Common.{◌≡◌, ℕ, ℤ, ◌-◌, ◌+◌, ◌++◌, ◌≤◌, ◌<◌, Bool, true, if◌then◌else◌, List, length, get_or}
+use Rattle.eco_tables.proofs.Common.{set, take, map, sym, ap, ◌∙◌, arith, pos, replicate, swap_remove, map-set, get_or-map, length-map, take-map, take_at}
+use Rattle.eco_tables.proofs.Common.{take_all, map-append, length-replicate, replicate-append-replicate, Value, padded, zeros, Fits}
 use Rattle.eco_ids.specs.declared.value.TheConstants.{FIELD_COUNT}
-use Rattle.eco_ids.specs.World.{padded, zeros}
 use Rattle.eco_ids.proofs.Lists.{map-replicate}
-use Rattle.eco_tables.specs.Column.{Fits}
 
 -- a row is taken out under a map
 pub map_swap_remove : {X Y : Type 0} (f : X → Y) (xs : List X) (i : ℕ) (d : X) (e : Y) → i < length (map f xs)

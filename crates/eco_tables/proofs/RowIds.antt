@@ -1,13 +1,7 @@
 -- Each row has a value for each id of its table's type, whatever changes.
-use Rattle.std.proofs.Common.{◌≡◌, ℕ, ◌<◌, ◌-◌, Bool, true, false, if◌then◌else◌, List, [], ◌∷◌, length, map, get_or, set, refl, sym, ◌∙◌, subst}
-use Rattle.std.specs.List.{All}
-use Rattle.std.proofs.lemmas.List.Elements.{All-nil, All-set, All-map, All-append}
-use Rattle.eco_ids.specs.declared.id.Id.{Id}
-use Rattle.eco_ids.specs.declared.value.Value.{Value}
-use Rattle.eco_ids.specs.Order.{id_eq}
-use Rattle.eco_tables.specs.Column.{value_in, with_held}
-use Rattle.eco_tables.specs.Table.{TableState, TableRow, HasIds, RowsHaveIds, retyped_row}
-use Rattle.eco_tables.specs.Tables.{no_row, turned, with_rows, without_row}
+use Rattle.eco_tables.proofs.Common.{◌≡◌, ℕ, ◌<◌, ◌-◌, Bool, true, false, if◌then◌else◌, List, [], ◌∷◌, length, map, get_or, set}
+use Rattle.eco_tables.proofs.Common.{refl, sym, ◌∙◌, subst, All, All-nil, All-set, All-map, All-append, Id, Value, id_eq, value_in, with_held, TableState}
+use Rattle.eco_tables.proofs.Common.{TableRow, HasIds, RowsHaveIds, retyped_row, no_row, turned, with_rows, without_row}
 use Rattle.eco_ids.proofs.Lists.{keys_paired, before, before_within, get_or-swap_remove, length-swap_remove}
 
 ids_written : (held : List (Id × Value)) (i : Id) (v : Value) → map (λ (p : Id × Value). p.0) (with_held held i v) ≡ map (λ (p : Id × Value). p.0) held

@@ -1,23 +1,13 @@
 -- Rows, as columns keep them.
-use Rattle.std.proofs.Common.{◌≡◌, ◌≢◌, ℕ, zero, suc, ◌+◌, ◌-◌, ◌<◌, ◌≤◌, Bool, true, false, if◌then◌else◌, List, [], ◌∷◌, ◌++◌, map, length, get_or, set}
-use Rattle.std.proofs.Common.{take, drop, slice_get, replicate, Option, Some, None, unwrap_or, is_some, IsTrue, refl, sym, ap, ◌∙◌, arith, inl, inr, true≢false}
-use Rattle.std.specs.List.{All, swap_remove}
-use Rattle.std.proofs.lemmas.List.{ext_get_or, get_or-set_same, get_or-set_other, get_or_append_left, get_or-append_right, get_or-replicate, length-replicate}
-use Rattle.std.proofs.lemmas.List.{length-map, length-set, get_or-map, length-append, map-append, map-set, take_all, drop_all, append-nil}
-use Rattle.std.proofs.lemmas.List.Elements.{All-head, All-tail, All-map}
-use Rattle.std.proofs.lemmas.Bool.{cases_eq, false_from_ne_true}
-use Rattle.eco_ids.specs.declared.entity.Entity.{Entity}
-use Rattle.eco_ids.specs.declared.id.Id.{Id}
-use Rattle.eco_ids.specs.declared.value.Value.{Value}
-use Rattle.eco_ids.specs.World.{zeros}
-use Rattle.std.specs.FinMap.Entries.{find}
-use Rattle.eco_ids.specs.Order.{id_cmp, id_eq, has_item, is_ascending}
+use Rattle.eco_tables.proofs.Common.{◌≡◌, ◌≢◌, ℕ, zero, suc, ◌+◌, ◌-◌, ◌<◌, ◌≤◌, Bool, true, false, if◌then◌else◌, List}
+use Rattle.eco_tables.proofs.Common.{[], ◌∷◌, ◌++◌, map, length, get_or, set, take, drop, slice_get, replicate, Option, Some, None, unwrap_or}
+use Rattle.eco_tables.proofs.Common.{is_some, IsTrue, refl, sym, ap, ◌∙◌, arith, inl, inr, true≢false, All, swap_remove, ext_get_or, get_or-set_same}
+use Rattle.eco_tables.proofs.Common.{get_or-set_other, get_or_append_left, get_or-append_right, get_or-replicate, length-replicate, length-map, length-set}
+use Rattle.eco_tables.proofs.Common.{get_or-map, length-append, map-append, map-set, take_all, drop_all, append-nil, All-head, All-tail, All-map, cases_eq}
+use Rattle.eco_tables.proofs.Common.{false_from_ne_true, Entity, Id, Value, zeros, find, id_cmp, id_eq, has_item, is_ascending, ColumnState, Fits, held_in}
+use Rattle.eco_tables.proofs.Common.{value_in, contents, kind_of, lengthened, emptied, with_removed, column_with_value, with_held, written, retyped, TableRow}
+use Rattle.eco_tables.proofs.Common.{rows_from, rows_of, retyped_row, table_of, paired, width_among, AreKinds, HasShape, ColumnsAgree, entities_of, HasIds}
 use Rattle.eco_ids.proofs.Lists.{before, before_within, get_or-swap_remove, keys_paired, length-swap_remove}
-use Rattle.eco_tables.specs.Column.{ColumnState, Fits, held_in, value_in, contents, kind_of, lengthened, emptied, with_removed, column_with_value, with_held}
-use Rattle.eco_tables.specs.Column.{written}
-use Rattle.eco_tables.specs.Column.{retyped}
-use Rattle.eco_tables.specs.Table.{TableRow, rows_from, rows_of, retyped_row, table_of, paired, width_among, AreKinds, HasShape, ColumnsAgree, entities_of}
-use Rattle.eco_tables.specs.Table.{HasIds}
 use Rattle.eco_tables.proofs.Held.{found_at, find-absent, place_within, has_place}
 use Rattle.eco_tables.proofs.Widths.{find-each, value-retyped, same_within, retyped-written, value-written, value-other, width-each, width-none}
 use Rattle.eco_tables.proofs.Packing.{map_swap_remove}

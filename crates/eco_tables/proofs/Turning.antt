@@ -1,25 +1,14 @@
 -- A table under another type: one column comes to the others, or goes.
-use Rattle.std.proofs.Common.{◌≡◌, ℕ, zero, suc, ◌+◌, ◌≤◌, ◌<◌, Bool, true, false, not, cond, ◌&&◌, ◌||◌, if◌then◌else◌, List, [], ◌∷◌, map, length}
-use Rattle.std.proofs.Common.{get_or, insert, remove}
-use Rattle.std.proofs.Common.{replicate, slice_get, Option, Some, None, unwrap_or, refl, sym, ap, ◌∙◌, subst, arith, IsTrue, true≢false, is_eq, is_lt, Less}
-use Rattle.std.proofs.Common.{Equal, Greater}
-use Rattle.std.specs.List.{All, position_from}
-use Rattle.std.specs.FinMap.Entries.{find, by_order}
-use Rattle.std.proofs.lemmas.Bool.{not-true}
-use Rattle.std.proofs.lemmas.List.{length-replicate}
-use Rattle.std.proofs.lemmas.List.Elements.{All-cons, All-head, All-tail, All-filter}
-use Rattle.eco_ids.specs.declared.entity.Entity.{Entity}
-use Rattle.eco_ids.specs.declared.id.Id.{Id}
-use Rattle.eco_ids.specs.World.{zeros}
-use Rattle.eco_ids.specs.Order.{id_cmp, id_eq, has_item, is_ascending, with_item, without_item}
+use Rattle.eco_tables.proofs.Common.{◌≡◌, ℕ, zero, suc, ◌+◌, ◌≤◌, ◌<◌, Bool, true, false, not, cond, ◌&&◌, ◌||◌}
+use Rattle.eco_tables.proofs.Common.{if◌then◌else◌, List, [], ◌∷◌, map, length, get_or, insert, remove, replicate, slice_get, Option, Some, None}
+use Rattle.eco_tables.proofs.Common.{unwrap_or, refl, sym, ap, ◌∙◌, subst, arith, IsTrue, true≢false, Less, Equal, Greater, All, position_from, find}
+use Rattle.eco_tables.proofs.Common.{by_order, not-true, length-replicate, All-cons, All-head, All-tail, All-filter, Entity, Id, zeros, id_cmp, id_eq, has_item}
+use Rattle.eco_tables.proofs.Common.{is_ascending, with_item, without_item, id_eq_sym, or_right, ColumnState, held_in, value_in, kind_of, retyped, with_column}
+use Rattle.eco_tables.proofs.Common.{without_column, TableState, rows_from, retyped_row, table_of, paired, width_among, width_in, AreKinds, HasShape, turned}
+use Rattle.std.proofs.Common.{is_eq, is_lt}
 use Rattle.eco_ids.proofs.Ascending.{first, second, ascending_with, ascending_without}
-use Rattle.eco_ids.proofs.Exact.{id_eq_sym}
-use Rattle.eco_ids.proofs.Facts.{or_right}
 use Rattle.eco_ids.proofs.IdOrder.{id_cmp_total}
 use Rattle.eco_ids.proofs.SetLaws.{joins_with, leaves_without}
-use Rattle.eco_tables.specs.Column.{ColumnState, held_in, value_in, kind_of, retyped, with_column, without_column}
-use Rattle.eco_tables.specs.Table.{TableState, rows_from, retyped_row, table_of, paired, width_among, width_in, AreKinds, HasShape}
-use Rattle.eco_tables.specs.Tables.{turned}
 use Rattle.eco_tables.proofs.Held.{above-other, above-none, same_eq, place_within, place_id}
 use Rattle.eco_tables.proofs.Rows.{ascends, within_ids, outside, no_column, zeros_held, held_value, ids_of_kinds}
 use Rattle.eco_tables.proofs.Widths.{is_same, or_first, same_within, width-each}

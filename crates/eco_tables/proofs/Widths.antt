@@ -1,21 +1,10 @@
 -- Which ids have columns, how wide those are, and what a row holds under other types.
-use Rattle.std.proofs.Common.{◌≡◌, ℕ, zero, suc, ◌<◌, ◌≤◌, Bool, true, false, ◌||◌, if◌then◌else◌, List, [], ◌∷◌, ◌++◌, map, length, get_or, take, Some, None}
-use Rattle.std.proofs.Common.{unwrap_or, refl, sym, ap, ◌∙◌, arith, IsTrue, true≢false}
-use Rattle.std.specs.List.{list_all}
-use Rattle.std.specs.Ordering.{is_lt}
-use Rattle.std.proofs.lemmas.List.{append-nil}
-use Rattle.std.specs.FinMap.Entries.{find}
-use Rattle.eco_ids.specs.declared.id.Id.{Id}
+use Rattle.eco_tables.proofs.Common.{◌≡◌, ℕ, zero, suc, ◌<◌, ◌≤◌, Bool, true, false, ◌||◌, if◌then◌else◌, List, [], ◌∷◌}
+use Rattle.eco_tables.proofs.Common.{◌++◌, map, length, get_or, take, Some, None, unwrap_or, refl, sym, ap, ◌∙◌, arith, IsTrue, true≢false}
+use Rattle.eco_tables.proofs.Common.{list_all, is_lt, append-nil, find, Id, Value, zeros, id_cmp, id_eq, has_item, is_ascending, id_eq_sym, equal_tie, or_right}
+use Rattle.eco_tables.proofs.Common.{same_id, value_in, retyped, with_held, paired, kinds_of, width_among, AreKinds}
 use Rattle.eco_ids.specs.declared.id.Id.TheVariants.{One}
-use Rattle.eco_ids.specs.declared.value.Value.{Value}
-use Rattle.eco_ids.specs.World.{zeros}
-use Rattle.eco_ids.specs.Order.{id_cmp, id_eq, has_item, is_ascending}
 use Rattle.eco_ids.proofs.Ascending.{first, second, both}
-use Rattle.eco_ids.proofs.Exact.{id_eq_sym}
-use Rattle.eco_ids.proofs.Facts.{equal_tie, or_right}
-use Rattle.eco_ids.proofs.IdOrder.{same_id}
-use Rattle.eco_tables.specs.Column.{value_in, retyped, with_held}
-use Rattle.eco_tables.specs.Table.{paired, kinds_of, width_among, AreKinds}
 use Rattle.eco_tables.proofs.Held.{above-none, same_eq}
 
 pub is_same : (i j : Id) → id_eq i j ≡ true → i ≡ j

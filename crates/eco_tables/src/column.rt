@@ -1,5 +1,6 @@
 //! The values of one id, a place for each row, in as many fields as the id has.
-ghost use Rattle.std.specs.Prelude.{◌≡◌, ◌<◌, ◌≤◌, ◌+◌, ◌-◌, ◌++◌, ◌^◌, [], length, map, take, replicate, vec_len, vec_capacity, slice_index_or, slice_set, ◌∷◌, OnOk, IfOk, ◌↔◌, IsTrue};
+ghost use Rattle.std.specs.Prelude.{◌≡◌, ◌<◌, ◌≤◌, ◌+◌, ◌-◌, ◌++◌, ◌^◌, [], length, map, take, replicate, vec_len};
+ghost use Rattle.std.specs.Prelude.{vec_capacity, slice_index_or, slice_set, ◌∷◌, OnOk, IfOk, ◌↔◌, IsTrue};
 ghost use Rattle.std.specs.List.{swap_remove};
 ghost use Rattle.eco_ids.specs.World.{padded, zeros};
 ghost use Rattle.eco_tables.specs.Column.{ColumnState, Fits, kind_of, pushed, lengthened, with_removed, column_with_value, emptied, contents};

@@ -1,12 +1,15 @@
 //! What is done to all columns of a table. They ascend by their ids, and an id that is no data has none.
-ghost use Rattle.std.specs.Prelude.{◌≡◌, ℕ, ◌<◌, ◌≤◌, ◌+◌, [], ◌∷◌, length, map, slice_get, slice_index_or, is_some, IsTrue, None, Some, OnOk, IfOk, IfSome, IfNone, false, not, vec_len, vec_capacity, ◌↔◌};
+ghost use Rattle.std.specs.Prelude.{◌≡◌, ℕ, ◌<◌, ◌≤◌, ◌+◌, [], ◌∷◌, length, map, slice_get, slice_index_or, is_some};
+ghost use Rattle.std.specs.Prelude.{IsTrue, None, Some, OnOk, IfOk, IfSome, IfNone, false, not, vec_len, vec_capacity};
+ghost use Rattle.std.specs.Prelude.{◌↔◌};
 ghost use Rattle.std.specs.List.{All, position_from};
 ghost use Rattle.std.specs.FinMap.Entries.{find};
 ghost use Rattle.std.specs.Ordering.{is_lt};
 ghost use Rattle.eco_ids.specs.declared.value.TheConstants.{FIELD_COUNT};
 ghost use Rattle.eco_ids.specs.World.{zeros};
 ghost use Rattle.eco_ids.specs.Order.{id_cmp, id_eq, has_item, is_ascending};
-ghost use Rattle.eco_tables.specs.Column.{Fits, pushed, lengthened, emptied, with_removed, written, held_in, value_in, contents, kind_of, with_column, without_column};
+ghost use Rattle.eco_tables.specs.Column.{Fits, pushed, lengthened, emptied, with_removed, written, held_in, value_in};
+ghost use Rattle.eco_tables.specs.Column.{contents, kind_of, with_column, without_column};
 ghost use Rattle.eco_tables.specs.Table.{ColumnsAgree, kinds_of, rows_from};
 
 use crate::column::Column;

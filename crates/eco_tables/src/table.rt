@@ -1,5 +1,7 @@
 //! A table: the entities of one type, and a column of values for each id that is data.
-ghost use Rattle.std.specs.Prelude.{◌≡◌, ℕ, ◌<◌, ◌≤◌, ◌+◌, ◌-◌, ◌^◌, ◌++◌, [], ◌∷◌, length, map, slice_index_or, slice_set, is_some, unwrap_or, OnOk, OnErr, IsOk, IfOk, IfSome, IsSome, IsTrue, slice_get, IsFalse, MatchOption, nat_lt, Some};
+ghost use Rattle.std.specs.Prelude.{◌≡◌, ℕ, ◌<◌, ◌≤◌, ◌+◌, ◌-◌, ◌^◌, ◌++◌, [], ◌∷◌, length, map, slice_index_or};
+ghost use Rattle.std.specs.Prelude.{slice_set, is_some, unwrap_or, OnOk, OnErr, IsOk, IfOk, IfSome, IsSome, IsTrue};
+ghost use Rattle.std.specs.Prelude.{slice_get, IsFalse, MatchOption, nat_lt, Some};
 ghost use Rattle.eco_ids.specs.declared.id.Id.{Id as Ids};
 ghost use Rattle.std.specs.List.{swap_remove, All};
 ghost use Rattle.std.specs.FinMap.Entries.{find};

@@ -1,5 +1,7 @@
 //! Tables, each in a slot of its own.
-ghost use Rattle.std.specs.Prelude.{◌≡◌, ◌≢◌, ℕ, ◌<◌, ◌≤◌, ◌+◌, ◌-◌, [], ◌∷◌, length, slice_get, slice_index_or, slice_set, None, Some, IsSome, is_some, OnSome, IfNone, count_by, OnOk, OnErr, IsOk, IfOk, option_copied, unwrap_or};
+ghost use Rattle.std.specs.Prelude.{◌≡◌, ◌≢◌, ℕ, ◌<◌, ◌≤◌, ◌+◌, ◌-◌, [], ◌∷◌, length, slice_get, slice_index_or};
+ghost use Rattle.std.specs.Prelude.{slice_set, None, Some, IsSome, is_some, OnSome, IfNone, count_by, OnOk, OnErr};
+ghost use Rattle.std.specs.Prelude.{IsOk, IfOk, option_copied, unwrap_or};
 ghost use Rattle.std.specs.FinMap.Entries.{find};
 ghost use Rattle.eco_ids.specs.declared.value.TheConstants.{FIELD_COUNT};
 ghost use Rattle.eco_ids.specs.Order.{id_cmp};
@@ -7,7 +9,9 @@ ghost use Rattle.eco_tables.specs.Column.{value_in, with_held};
 ghost use Rattle.std.specs.List.{All};
 ghost use Rattle.std.specs.Slice.Iter.{iter_rest};
 ghost use Rattle.eco_tables.specs.Table.{TableState, TableRow, entities_of, empty_table, Agree, FitsId, RowsHaveIds};
-ghost use Rattle.eco_tables.specs.Tables.{slot_of, table_in, row_in, no_row, SetsSlot, SetsRoom, Moves, MovesAll, cleared, new_row, with_room, with_row, with_rows, with_written, without_row, without_rows, no_table, rowless_type, AllHaveIds};
+ghost use Rattle.eco_tables.specs.Tables.{slot_of, table_in, row_in, no_row, SetsSlot, SetsRoom, Moves, MovesAll};
+ghost use Rattle.eco_tables.specs.Tables.{cleared, new_row, with_room, with_row, with_rows, with_written, without_row};
+ghost use Rattle.eco_tables.specs.Tables.{without_rows, no_table, rowless_type, AllHaveIds};
 
 use crate::table::Table;
 use crate::tables::lending::{table_mut, two_mut};

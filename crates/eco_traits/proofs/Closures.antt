@@ -1,19 +1,8 @@
 -- The closure of an id is the walk of pairs of With from its head.
-use Rattle.std.proofs.Common.{◌≡◌, ◌||◌, ◌↔◌, inl, inr, List, [], ◌∷◌, refl, sym, ap, ◌∙◌, subst, true≢false, IsTrue}
-use Rattle.eco_ids.specs.declared.entity.Entity.{Entity}
-use Rattle.eco_ids.specs.declared.entity.TheConstants.{WITH}
-use Rattle.eco_ids.specs.declared.id.Id.{Id}
-use Rattle.eco_ids.specs.declared.id.Id.TheVariants.{One, Two}
-use Rattle.eco_ids.specs.Least.{root, next}
-use Rattle.eco_ids.specs.Order.{id_cmp, id_eq, entity_cmp, entity_eq, has_item, is_ascending}
-use Rattle.eco_ids.specs.Step.{IsClosure}
-use Rattle.eco_ids.specs.Traits.{Brings, InClosure, Reaches}
-use Rattle.eco_ids.specs.World.{WorldState, has}
-use Rattle.eco_traits.specs.Closure.{head_of, with_head, with_heads}
-use Rattle.std.proofs.lemmas.Bool.{or_left}
-use Rattle.eco_ids.proofs.IdOrder.{same_id}
-use Rattle.eco_ids.proofs.Facts.{or_parts, or_right, id_eq_is, id_eq_itself}
-use Rattle.eco_ids.proofs.Overlaps.{entity_eq_is, entity_eq_itself}
+use Rattle.eco_traits.proofs.Common.{◌≡◌, ◌||◌, ◌↔◌, inl, inr, List, [], ◌∷◌, refl, sym, ap, ◌∙◌, subst, true≢false, IsTrue}
+use Rattle.eco_traits.proofs.Common.{Entity, WITH, Id, One, Two, root, next, id_cmp, id_eq, entity_cmp, entity_eq, has_item, is_ascending, IsClosure, Brings}
+use Rattle.eco_traits.proofs.Common.{InClosure, Reaches, WorldState, has, head_of, with_head, with_heads, or_left, same_id, or_parts, or_right, id_eq_is}
+use Rattle.eco_traits.proofs.Common.{id_eq_itself, entity_eq_is, entity_eq_itself}
 use Rattle.eco_traits.proofs.Members.{only}
 
 -- ---- the id with many heads

@@ -1,28 +1,13 @@
 -- The closure of an id where nothing that it brings brings more.
-use Rattle.std.proofs.Common.{◌≡◌, if◌then◌else◌, ℕ, ◌+◌, ◌<◌, Bool, true, false, ◌&&◌, ◌||◌, ◌⊎◌, inl, inr, List, [], ◌∷◌, length, take, get_or}
-use Rattle.std.proofs.Common.{refl, sym, ap, ◌∙◌, subst, true≢false, IsTrue, Option, Some, None, is_some}
-use Rattle.std.specs.List.{list_any}
-use Rattle.std.proofs.Math.Bool.{or-false}
-use Rattle.std.proofs.lemmas.List.{map_more, take_more}
+use Rattle.eco_traits.proofs.Common.{◌≡◌, if◌then◌else◌, ℕ, ◌+◌, ◌<◌, Bool, true, false, ◌&&◌, ◌||◌, ◌⊎◌, inl, inr, List}
+use Rattle.eco_traits.proofs.Common.{[], ◌∷◌, length, take, get_or, refl, sym, ap, ◌∙◌, subst, true≢false, IsTrue, Option, Some, None, is_some}
+use Rattle.eco_traits.proofs.Common.{list_any, or-false, map_more, take_more, Entity, WITH, Id, One, Two, root, next, id_cmp, id_eq, entity_eq, has_item}
+use Rattle.eco_traits.proofs.Common.{is_ascending, with_item, IsClosure, InClosure, Reaches, WorldState, has, ascending_with, both, first, second, any_is}
+use Rattle.eco_traits.proofs.Common.{id_eq_is, id_eq_itself, or_parts, or_right, id_cmp_total, entity_eq_is, entity_eq_itself, joins_with, BringNoMore}
+use Rattle.eco_traits.proofs.Common.{HasGiven, HasSameIds, LacksWith, gives, head_of, with_head, with_heads, target_by_pair, type_of_entity, is_with}
 use Rattle.std.proofs.lemmas.List.Folds.{list_any-append, list_any_at}
-use Rattle.eco_ids.specs.declared.entity.Entity.{Entity}
-use Rattle.eco_ids.specs.declared.entity.TheConstants.{WITH}
-use Rattle.eco_ids.specs.declared.id.Id.{Id}
-use Rattle.eco_ids.specs.declared.id.Id.TheVariants.{One, Two}
-use Rattle.eco_ids.specs.Least.{root, next}
-use Rattle.eco_ids.specs.Order.{id_cmp, id_eq, entity_eq, has_item, is_ascending, with_item}
-use Rattle.eco_ids.specs.Step.{IsClosure}
-use Rattle.eco_ids.specs.Traits.{InClosure, Reaches}
-use Rattle.eco_ids.specs.World.{WorldState, has}
-use Rattle.eco_ids.proofs.Ascending.{ascending_with, both, first, second}
-use Rattle.eco_ids.proofs.Facts.{any_is, id_eq_is, id_eq_itself, or_left, or_parts, or_right}
-use Rattle.eco_ids.proofs.IdOrder.{id_cmp_total}
-use Rattle.eco_ids.proofs.Overlaps.{entity_eq_is, entity_eq_itself}
-use Rattle.eco_ids.proofs.SetLaws.{joins_with}
-use Rattle.eco_traits.specs.Closure.{BringNoMore, HasGiven, HasSameIds, LacksWith, gives, head_of, with_head, with_heads}
-use Rattle.eco_traits.specs.Target.{target_by_pair, type_of_entity}
+use Rattle.eco_ids.proofs.Facts.{or_left}
 use Rattle.eco_traits.proofs.Closures.{closure_to_reach, own_head, reach_to_closure}
-use Rattle.eco_ids.specs.Mirrors.{is_with}
 use Rattle.eco_traits.proofs.Traits.{member, not_so, with_among}
 use Rattle.eco_traits.proofs.Walks.{has_listed}
 

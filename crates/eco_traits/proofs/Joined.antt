@@ -1,28 +1,14 @@
 -- What an entity has once a closure came to it, by its ids alone.
-use Rattle.std.proofs.lemmas.Grind.{common_steps}
-use Rattle.std.proofs.Common.{arith, rules}
-use Rattle.std.proofs.Common.{◌≡◌, if◌then◌else◌, ℕ, ◌+◌, ◌<◌, Bool, true, false, cond, not, ◌&&◌, ◌||◌, List, [], ◌∷◌, filter, fold, length, take, get_or}
-use Rattle.std.proofs.Common.{refl, sym, ap, ◌∙◌, true≢false, IsTrue, Option, Some, None, Result, Ok, option_copied, option_map, unwrap_or, is_some}
-use Rattle.std.proofs.lemmas.List.{take_more}
+use Rattle.eco_traits.proofs.Common.{common_steps, arith, rules, ◌≡◌, if◌then◌else◌, ℕ, ◌+◌, ◌<◌, Bool, true, false, cond, not, ◌&&◌}
+use Rattle.eco_traits.proofs.Common.{◌||◌, List, [], ◌∷◌, filter, fold, length, take, get_or, refl, sym, ap, ◌∙◌, true≢false, IsTrue, Option}
+use Rattle.eco_traits.proofs.Common.{Some, None, Result, Ok, option_copied, option_map, unwrap_or, is_some, take_more, where_key, is_sorted-where_key, Entity}
+use Rattle.eco_traits.proofs.Common.{Id, Refusal, id_cmp, id_eq, has_item, is_ascending, with_item, without_item, IsClosure, Judges, grown, is_replaced}
+use Rattle.eco_traits.proofs.Common.{with_closure, WorldState, Record, has, names_living, record_of, and_right, or_left, or_comm, ascending_with, id_eq_sym}
+use Rattle.eco_traits.proofs.Common.{keys_kept, keys_zeros, to_T, or_right, id_eq_is, id_eq_itself, id_cmp_total, same_id, same_members, joins_with, ExtendsTo}
+use Rattle.eco_traits.proofs.Common.{AddLeadsTo, type_of_record}
 use Rattle.std.proofs.lemmas.List.Sums.{fold-append}
 use Rattle.std.specs.Borrow.{Bor}
-use Rattle.std.specs.FinMap.Entries.{where_key, is_sorted-where_key}
-use Rattle.eco_ids.specs.declared.entity.Entity.{Entity}
-use Rattle.eco_ids.specs.declared.id.Id.{Id}
-use Rattle.eco_ids.specs.declared.refusal.Refusal.{Refusal}
-use Rattle.eco_ids.specs.Order.{id_cmp, id_eq, has_item, is_ascending, with_item, without_item}
-use Rattle.eco_ids.specs.Step.{IsClosure, Judges, grown, is_replaced, with_closure}
-use Rattle.eco_ids.specs.World.{WorldState, Record, has, names_living, record_of}
-use Rattle.std.proofs.lemmas.Bool.{and_right, or_left}
-use Rattle.std.proofs.Math.Bool.{or_comm}
-use Rattle.eco_ids.proofs.Ascending.{ascending_with}
 use Rattle.eco_ids.proofs.Entries.{sorted_is}
-use Rattle.eco_ids.proofs.Exact.{id_eq_sym, keys_kept, keys_zeros}
-use Rattle.eco_ids.proofs.Facts.{to_T, or_right, id_eq_is, id_eq_itself}
-use Rattle.eco_ids.proofs.IdOrder.{id_cmp_total, same_id}
-use Rattle.eco_ids.proofs.Members.{same_members}
-use Rattle.eco_ids.proofs.SetLaws.{joins_with}
-use Rattle.eco_traits.specs.Target.{ExtendsTo, AddLeadsTo, type_of_record}
 
 -- ---- the ids of what is held
 

@@ -1,23 +1,11 @@
 -- The target of each pair that an entity has is among the known targets.
-use Rattle.std.proofs.lemmas.Grind.{common_steps}
-use Rattle.std.proofs.Common.{arith}
-use Rattle.std.proofs.Common.{◌≡◌, ℕ, zero, suc, true, false, cond, ◌||◌, List, [], ◌∷◌, slice_get, Some, is_some, IsTrue, refl, sym, ◌∙◌, subst, true≢false}
-use Rattle.std.specs.FinMap.Entries.{find}
-use Rattle.eco_ids.specs.declared.entity.Entity.{Entity}
-use Rattle.eco_ids.specs.declared.id.Id.{Id}
-use Rattle.eco_ids.specs.declared.id.Id.TheVariants.{Two}
-use Rattle.eco_ids.specs.declared.value.Value.{Value}
+use Rattle.eco_traits.proofs.Common.{common_steps, arith, ◌≡◌, ℕ, zero, suc, true, false, cond, ◌||◌, List, [], ◌∷◌, slice_get, Some, is_some}
+use Rattle.eco_traits.proofs.Common.{IsTrue, refl, sym, ◌∙◌, subst, true≢false, find, Entity, Id, Two, Value, id_cmp, id_eq, entity_cmp, entity_eq}
+use Rattle.eco_traits.proofs.Common.{has_item, WorldState, Record, has, or_left, or_right, id_eq_is, has_in, entity_eq_itself, list_any}
 use Rattle.eco_ids.specs.Indices.{IndexState, Retired, Free, Living, record_in}
-use Rattle.eco_ids.specs.Order.{id_cmp, id_eq, entity_cmp, entity_eq, has_item}
-use Rattle.eco_ids.specs.World.{WorldState, Record, has}
-use Rattle.std.proofs.lemmas.Bool.{or_left}
-use Rattle.eco_ids.proofs.Facts.{or_right, id_eq_is}
-use Rattle.eco_ids.proofs.Keeps.{has_in}
-use Rattle.eco_ids.proofs.Overlaps.{entity_eq_itself}
-use Rattle.std.specs.List.{list_any}
-use Rattle.eco_ids.specs.contracts.entity.EntityPartialEq.TheImpl as entity_impl
 use Rattle.eco_traits.proofs.Members.{has_front, has_back, list_any-derived}
 use Rattle.eco_traits.specs.Known.{target_of, targets_in, targets_from, all_targets}
+use Rattle.eco_ids.specs.contracts.entity.EntityPartialEq.TheImpl as entity_impl
 
 held_target : (i : Id) (held : List (Id × Value)) → IsTrue (is_some (find id_cmp i held)) → IsTrue (has_item entity_cmp (targets_in held) (target_of i))
 held_target i [] h = absurd (true≢false (sym h))

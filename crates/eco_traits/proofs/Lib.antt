@@ -1,3 +1,4 @@
+pub mod Common
 pub mod Closures
 pub mod Flat
 pub mod Joined

@@ -1,17 +1,12 @@
 -- Tests, and members of lists.
-use Rattle.std.proofs.lemmas.Grind.{common_steps}
-use Rattle.std.proofs.Common.{◌≡◌, ℕ, zero, suc, ◌<◌, length, get_or, arith, Bool, true, false, ◌||◌, inl, inr, List, [], ◌∷◌, ◌++◌, refl, sym, ap, ◌∙◌}
-use Rattle.std.proofs.Common.{subst, is_eq, true≢false, Ordering, IsTrue}
+use Rattle.eco_traits.proofs.Common.{common_steps, ◌≡◌, ℕ, zero, suc, ◌<◌, length, get_or, arith, Bool, true, false, ◌||◌, inl, inr, List, []}
+use Rattle.eco_traits.proofs.Common.{◌∷◌, ◌++◌, refl, sym, ap, ◌∙◌, subst, is_eq, true≢false, Ordering, IsTrue, list_any, or_left, Entity}
+use Rattle.eco_traits.proofs.Common.{entity_cmp, entity_eq, has_item, equal_tie, or_parts, entity_eq_is, entity_eq_itself}
 use Rattle.std.specs.FinMap.{IsAntisymmetric}
-use Rattle.std.specs.List.{list_any}
-use Rattle.std.proofs.lemmas.Bool.{or_left, or_right}
+use Rattle.std.proofs.lemmas.Bool.{or_right}
 use Rattle.std.proofs.lemmas.List.Folds.{list_any-append}
 use Rattle.std.specs.Cmp.{IsTotalOrder, tied_itself}
-use Rattle.eco_ids.specs.declared.entity.Entity.{Entity}
-use Rattle.eco_ids.specs.Order.{entity_cmp, entity_eq, has_item}
 use Rattle.eco_ids.specs.contracts.entity.EntityPartialEq.TheImpl as entity_impl
-use Rattle.eco_ids.proofs.Facts.{equal_tie, or_parts}
-use Rattle.eco_ids.proofs.Overlaps.{entity_eq_is, entity_eq_itself}
 
 -- each of two tests holds where the other does
 pub same_truth : (a b : Bool) → (IsTrue a → IsTrue b) → (IsTrue b → IsTrue a) → a ≡ b

@@ -1,31 +1,15 @@
 -- An id that comes alone, replaces nothing, and against which nothing stands.
-use Rattle.std.proofs.lemmas.Grind.{common_steps}
-use Rattle.std.proofs.Common.{arith}
-use Rattle.std.proofs.Common.{◌≡◌, Bool, true, false, cond, not, ◌&&◌, ◌||◌, inl, inr, List, [], ◌∷◌, filter, refl, sym, ap, subst, ◌∙◌, true≢false, IsTrue}
-use Rattle.std.proofs.Common.{Some, None, Option, Ok, option_map}
-use Rattle.std.specs.List.{list_any}
-use Rattle.std.proofs.lemmas.Bool.{and_right}
-use Rattle.eco_ids.proofs.Gains.{same_relationship}
-use Rattle.eco_ids.proofs.IdOrder.{same_id}
-use Rattle.eco_ids.specs.declared.entity.Entity.{Entity}
-use Rattle.eco_ids.specs.declared.entity.TheConstants.{ACYCLIC, EXCLUSIVE, SYMMETRIC, WITH}
-use Rattle.eco_ids.specs.declared.id.Id.{Id}
-use Rattle.eco_ids.specs.declared.id.Id.TheVariants.{One, Two}
-use Rattle.eco_ids.specs.Order.{id_cmp, entity_eq, has_item, is_ascending, with_item}
-use Rattle.eco_ids.specs.Step.{IsClosure, ClosesCycle, Judges, grown, is_late, is_replaced, is_used, is_wrong_policy}
-use Rattle.eco_ids.specs.World.{WorldState, Record, has, is_acyclic, is_alive, is_exclusive, is_symmetric, names_living, record_of}
-use Rattle.eco_traits.specs.Closure.{head_of}
-use Rattle.eco_ids.specs.declared.edition.Edition.{Edition}
+use Rattle.eco_traits.proofs.Common.{common_steps, arith, ◌≡◌, Bool, true, false, cond, not, ◌&&◌, ◌||◌, inl, inr, List, [], ◌∷◌, filter}
+use Rattle.eco_traits.proofs.Common.{refl, sym, ap, subst, ◌∙◌, true≢false, IsTrue, Some, None, Option, Ok, option_map, list_any, and_right}
+use Rattle.eco_traits.proofs.Common.{same_relationship, same_id, Entity, ACYCLIC, EXCLUSIVE, SYMMETRIC, WITH, Id, One, Two, id_cmp, entity_eq, has_item}
+use Rattle.eco_traits.proofs.Common.{is_ascending, with_item, IsClosure, ClosesCycle, Judges, grown, is_late, is_replaced, is_used, is_wrong_policy, WorldState}
+use Rattle.eco_traits.proofs.Common.{Record, has, is_acyclic, is_alive, is_exclusive, is_symmetric, names_living, record_of, head_of, Edition, has_symmetric}
+use Rattle.eco_traits.proofs.Common.{late_traits, has_clash, mirror_of, mirrored_pair, would_be_barred, both, first, second, or_parts, entity_eq_is}
+use Rattle.eco_traits.proofs.Common.{entity_eq_itself, BringsNone, IsPlain, IsSound, AddLeadsTo, ties, type_of_record}
 use Rattle.eco_ids.specs.declared.edition.Edition.TheVariants.{First, Second}
-use Rattle.eco_ids.specs.Edition.{has_symmetric, late_traits}
-use Rattle.eco_ids.specs.Mirrors.{has_clash, mirror_of, mirrored_pair, would_be_barred}
-use Rattle.eco_ids.proofs.Ascending.{both, first, second}
 use Rattle.eco_ids.proofs.Clashes.{IsQuiet, clash_is_local, quiet_grows}
-use Rattle.eco_ids.proofs.Facts.{or_parts}
-use Rattle.eco_ids.proofs.Overlaps.{entity_eq_is, entity_eq_itself}
 use Rattle.eco_traits.proofs.Members.{only}
 use Rattle.eco_traits.proofs.Traits.{not_so}
-use Rattle.eco_traits.specs.Target.{BringsNone, IsPlain, IsSound, AddLeadsTo, ties, type_of_record}
 use Rattle.eco_traits.proofs.Closures.{closure_alone}
 use Rattle.eco_traits.proofs.Joined.{leads_to, some_record}
 use Rattle.eco_traits.proofs.Verdicts.{judged_cycle}

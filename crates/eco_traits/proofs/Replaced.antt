@@ -1,23 +1,12 @@
 -- What a pair of an exclusive relationship replaces, where that is one pair at most.
-use Rattle.std.proofs.Common.{◌≡◌, Bool, true, false, cond, not, ◌&&◌, ◌||◌, inl, inr, List, [], ◌∷◌, filter}
-use Rattle.std.proofs.Common.{find, refl, sym, ap, ◌∙◌, subst, true≢false, IsTrue, IsFalse, Option, Some, None, is_some, option_map, if◌then◌else◌}
-use Rattle.std.specs.List.{list_any}
-use Rattle.std.proofs.lemmas.Bool.{and_right, or_left, or_parts, or_right}
-use Rattle.eco_ids.specs.declared.entity.Entity.{Entity}
-use Rattle.eco_ids.specs.declared.entity.TheConstants.{ACYCLIC, EXCLUSIVE}
-use Rattle.eco_ids.specs.declared.id.Id.{Id}
-use Rattle.eco_ids.specs.declared.id.Id.TheVariants.{One, Two}
-use Rattle.eco_ids.specs.Order.{id_cmp, id_eq, entity_eq, has_item, is_ascending, with_item, without_item}
-use Rattle.eco_ids.specs.Step.{is_pair_of, is_replaced, is_wrong_policy}
-use Rattle.eco_ids.specs.Traits.{Reaches}
-use Rattle.eco_ids.specs.Least.{root, next}
-use Rattle.eco_ids.specs.World.{WorldState, has, is_acyclic, is_exclusive, names_living, record_of}
-use Rattle.eco_ids.proofs.Exact.{id_eq_sym}
-use Rattle.eco_ids.proofs.Facts.{id_eq_is, id_eq_itself, same_or_apart}
-use Rattle.eco_ids.proofs.Gains.{same_relationship}
-use Rattle.eco_ids.proofs.IdOrder.{same_id}
-use Rattle.eco_ids.proofs.Overlaps.{entity_eq_is, entity_eq_itself}
-use Rattle.eco_traits.specs.Target.{BringsNone, IsSound, Replaces, without_replaced, ties, type_of_record}
+use Rattle.eco_traits.proofs.Common.{◌≡◌, Bool, true, false, cond, not, ◌&&◌, ◌||◌, inl, inr, List, [], ◌∷◌, filter, refl, sym, ap}
+use Rattle.eco_traits.proofs.Common.{◌∙◌, subst, true≢false, IsTrue, IsFalse, Option, Some, None, is_some, option_map, if◌then◌else◌, list_any}
+use Rattle.eco_traits.proofs.Common.{and_right, or_left, Entity, ACYCLIC, EXCLUSIVE, Id, One, Two, id_cmp, id_eq, entity_eq, has_item, is_ascending, with_item}
+use Rattle.eco_traits.proofs.Common.{without_item, is_pair_of, is_replaced, is_wrong_policy, Reaches, root, next, WorldState, has, is_acyclic, is_exclusive}
+use Rattle.eco_traits.proofs.Common.{names_living, record_of, id_eq_sym, id_eq_is, id_eq_itself, same_or_apart, same_relationship, same_id, entity_eq_is}
+use Rattle.eco_traits.proofs.Common.{entity_eq_itself, BringsNone, IsSound, Replaces, without_replaced, ties, type_of_record}
+use Rattle.std.proofs.Common.{find}
+use Rattle.std.proofs.lemmas.Bool.{or_parts, or_right}
 use Rattle.eco_traits.proofs.Joined.{leads_to}
 use Rattle.eco_traits.proofs.Members.{only, same_truth}
 use Rattle.eco_traits.proofs.Plain.{alone_judged, comes_alone, pair_calm, pair_late}

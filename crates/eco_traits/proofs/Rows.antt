@@ -1,25 +1,15 @@
 -- A world of rows: each index lives at generation 0, with its ids.
-use Rattle.std.proofs.Common.{◌≡◌, ℕ, zero, suc, ◌+◌, ◌==◌, true, false, ◌||◌, ◌↔◌, inl, inr, List, [], ◌∷◌, map, refl, sym, ap, ◌∙◌, true≢false, IsTrue}
-use Rattle.std.proofs.Common.{Option, Some, None, is_some, option_map, slice_get, Bor, if◌then◌else◌}
+use Rattle.eco_traits.proofs.Common.{◌≡◌, ℕ, zero, suc, ◌+◌, ◌==◌, true, false, ◌||◌, ◌↔◌, inl, inr, List, [], ◌∷◌, map, refl}
+use Rattle.eco_traits.proofs.Common.{sym, ap, ◌∙◌, true≢false, IsTrue, Option, Some, None, is_some, option_map, slice_get, if◌then◌else◌}
+use Rattle.eco_traits.proofs.Common.{list_any, find, Entity, Id, Value, id_cmp, has_item, is_pair_of, is_used, WorldState, Record, has, zeros, record_of}
+use Rattle.eco_traits.proofs.Common.{first_world, has_in, or_left, or_parts, or_right, type_of_record, keys, keys_find}
+use Rattle.std.proofs.Common.{Bor}
 use Rattle.std.specs.Option.{option_copied}
 use Rattle.std.specs.Slice.{IsItemAt}
 use Rattle.std.proofs.lemmas.Option.{slice_get_past, slice_get-get_or}
 use Rattle.std.proofs.lemmas.Bool.Decides.{Decides-eqb}
-use Rattle.std.specs.List.{list_any}
-use Rattle.std.specs.FinMap.Entries.{find}
-use Rattle.eco_ids.specs.declared.entity.Entity.{Entity}
-use Rattle.eco_ids.specs.declared.id.Id.{Id}
-use Rattle.eco_ids.specs.declared.value.Value.{Value}
 use Rattle.eco_ids.specs.Indices.{IndexState, Living, living_from, record_in}
-use Rattle.eco_ids.specs.Order.{id_cmp, has_item}
-use Rattle.eco_ids.specs.Step.{is_pair_of, is_used}
-use Rattle.eco_ids.specs.World.{WorldState, Record, has, zeros, record_of, first_world}
-use Rattle.eco_ids.proofs.Keeps.{has_in}
-use Rattle.std.proofs.lemmas.Bool.{or_left}
-use Rattle.eco_ids.proofs.Facts.{or_parts, or_right}
 use Rattle.eco_traits.proofs.Members.{same_truth}
-use Rattle.eco_traits.specs.Target.{type_of_record}
-use Rattle.eco_ids.proofs.Exact.{keys, keys_find}
 
 abbrev pub with_ids : List Id → Record
 with_ids ids = record { name = None; arity = None; held = map (λ i. (i, zeros)) ids }

@@ -1,11 +1,7 @@
 -- A target stands for the type that an add leads to.
-use Rattle.std.proofs.Common.{◌≡◌, true, false, List, [], Some, unwrap_or, refl, ap, subst, IsTrue, Ok}
-use Rattle.eco_ids.specs.declared.entity.Entity.{Entity}
-use Rattle.eco_ids.specs.declared.id.Id.{Id}
-use Rattle.eco_ids.specs.Order.{id_cmp, is_ascending, with_item}
-use Rattle.eco_ids.specs.World.{WorldState, has, names_living}
+use Rattle.eco_traits.proofs.Common.{◌≡◌, true, false, List, [], Some, unwrap_or, refl, ap, subst, IsTrue, Ok, Entity, Id, id_cmp, is_ascending}
+use Rattle.eco_traits.proofs.Common.{with_item, WorldState, has, names_living, FindsTarget, IsPlain, IsSound, AddLeadsTo, type_of_entity}
 use Rattle.eco_traits.specs.declared.target.Target.TheVariants.{With}
-use Rattle.eco_traits.specs.Target.{FindsTarget, IsPlain, IsSound, AddLeadsTo, type_of_entity}
 use Rattle.eco_traits.proofs.Plain.{AreTraitsOf, plain_leads_to}
 
 module _ (w : WorldState) (e : Entity) (i : Id) (own : List Id) (lives : names_living w i ≡ true) (owns : Some own ≡ type_of_entity w e) where

@@ -1,19 +1,9 @@
 -- Ids that say how pairs behave, among others.
-use Rattle.std.proofs.Common.{◌≡◌, ◌↔◌, Bool, true, false, inl, inr, List, refl, sym, ap, ◌∙◌, subst, true≢false, IsTrue, IsFalse, ◌&&◌, ◌||◌}
-use Rattle.std.specs.List.{list_any}
-use Rattle.eco_ids.specs.declared.edition.Edition.{Edition}
-use Rattle.eco_ids.specs.declared.entity.Entity.{Entity}
-use Rattle.eco_ids.specs.declared.entity.TheConstants.{ACYCLIC, EXCLUSIVE, SYMMETRIC, WITH}
-use Rattle.eco_ids.specs.declared.id.Id.{Id}
-use Rattle.eco_ids.specs.declared.id.Id.TheVariants.{One, Two}
-use Rattle.eco_ids.specs.Edition.{has_symmetric}
-use Rattle.eco_ids.specs.Order.{id_cmp, id_eq, entity_eq, has_item}
-use Rattle.eco_ids.proofs.Ascending.{both, first, second}
-use Rattle.eco_ids.proofs.Facts.{any_is, id_eq_is, id_eq_itself, or_left, or_parts, or_right}
-use Rattle.eco_ids.proofs.Overlaps.{entity_eq_is, entity_eq_itself}
-use Rattle.eco_ids.specs.Mirrors.{is_with}
-use Rattle.eco_traits.specs.Prospect.{is_trait}
-use Rattle.eco_traits.specs.Target.{LacksTraits}
+use Rattle.eco_traits.proofs.Common.{◌≡◌, ◌↔◌, Bool, true, false, inl, inr, List, refl, sym, ap, ◌∙◌, subst, true≢false, IsTrue, IsFalse}
+use Rattle.eco_traits.proofs.Common.{◌&&◌, ◌||◌, list_any, Edition, Entity, ACYCLIC, EXCLUSIVE, SYMMETRIC, WITH, Id, One, Two, has_symmetric, id_cmp}
+use Rattle.eco_traits.proofs.Common.{id_eq, entity_eq, has_item, both, first, second, any_is, id_eq_is, id_eq_itself, or_parts, or_right, entity_eq_is}
+use Rattle.eco_traits.proofs.Common.{entity_eq_itself, is_with, is_trait, LacksTraits}
+use Rattle.eco_ids.proofs.Facts.{or_left}
 
 -- what a member passes, one of them passes
 pub member : (p : Id → Bool) (ids : List Id) (j : Id) → IsTrue (has_item id_cmp ids j) → IsTrue (p j) → IsTrue (list_any p ids)

@@ -1,37 +1,19 @@
 -- What stands against a closure.
-use Rattle.std.proofs.lemmas.Grind.{common_steps}
-use Rattle.std.proofs.Common.{◌≡◌, ℕ, zero, suc, ◌+◌, ◌<◌, false, ◌||◌, ◌⊎◌, inl, inr, List, [], ◌∷◌, length, take, get_or, refl, sym, ap, ◌∙◌, subst}
-use Rattle.std.proofs.Common.{true≢false, IsTrue, ◌↔◌, map, unwrap_or, Ok, Err, Bool, true, cond, MatchBool, Option, Some, None, option_map, is_lt, arith}
+use Rattle.eco_traits.proofs.Common.{common_steps, ◌≡◌, ℕ, zero, suc, ◌+◌, ◌<◌, false, ◌||◌, ◌⊎◌, inl, inr, List, [], ◌∷◌}
+use Rattle.eco_traits.proofs.Common.{length, take, get_or, refl, sym, ap, ◌∙◌, subst, true≢false, IsTrue, ◌↔◌, map, unwrap_or, Ok, Err, Bool}
+use Rattle.eco_traits.proofs.Common.{true, cond, MatchBool, Option, Some, None, option_map, is_lt, arith, take_more, list_any, Entity, Id, Two, Refusal, Cycle}
+use Rattle.eco_traits.proofs.Common.{InUse, NotAPolicy, TraitClash, late_traits, has_clash, is_with, would_clash, id_cmp, id_eq, entity_cmp, has_item}
+use Rattle.eco_traits.proofs.Common.{is_ascending, IsClosure, IsFirstCycle, Judges, grown, is_late, is_used, is_wrong_policy, Value, WITH, WorldState, Record}
+use Rattle.eco_traits.proofs.Common.{has, held_by, is_alive, living, names_living, record_of, entry_of, some_of, or_left, same_relationship, all_item}
+use Rattle.eco_traits.proofs.Common.{id_cmp_total, same_id, first, second, or_parts, or_right, id_eq_is, entity_cmp_total, ClosesBy, FindsType, IsClosedBy}
+use Rattle.eco_traits.proofs.Common.{IsSound, AddLeadsTo, extended_by, left_by, type_of_record}
 use Rattle.std.specs.Option.{option_or}
-use Rattle.std.proofs.lemmas.List.{take_more}
 use Rattle.std.specs.Cmp.{tied_itself}
-use Rattle.std.specs.List.{list_any}
 use Rattle.std.specs.Ordering.{is_le}
-use Rattle.eco_ids.specs.declared.entity.Entity.{Entity}
-use Rattle.eco_ids.specs.declared.id.Id.{Id}
-use Rattle.eco_ids.specs.declared.id.Id.TheVariants.{Two}
-use Rattle.eco_ids.specs.declared.refusal.Refusal.{Refusal}
-use Rattle.eco_ids.specs.declared.refusal.Refusal.TheVariants.{Cycle, InUse, NotAPolicy, TraitClash}
-use Rattle.eco_ids.specs.Edition.{late_traits}
-use Rattle.eco_ids.specs.Mirrors.{has_clash, is_with, would_clash}
 use Rattle.eco_ids.specs.Outcome.{is_out_of_memory}
-use Rattle.eco_ids.specs.Order.{id_cmp, id_eq, entity_cmp, has_item, is_ascending}
-use Rattle.eco_ids.specs.Step.{IsClosure, IsFirstCycle, Judges, grown, is_late, is_used, is_wrong_policy}
-use Rattle.eco_ids.specs.declared.value.Value.{Value}
-use Rattle.eco_ids.specs.declared.entity.TheConstants.{WITH}
-use Rattle.eco_ids.specs.World.{WorldState, Record, has, held_by, is_alive, living, names_living, record_of}
 use Rattle.eco_ids.proofs.Clashes.{clash_is_local}
-use Rattle.eco_ids.proofs.Keeps.{entry_of, some_of}
 use Rattle.eco_ids.proofs.Mirrors.{living_some, some_living}
-use Rattle.std.proofs.lemmas.Bool.{or_left}
-use Rattle.eco_ids.proofs.Gains.{same_relationship}
-use Rattle.eco_ids.proofs.Members.{all_item}
-use Rattle.eco_ids.proofs.IdOrder.{id_cmp_total, same_id}
-use Rattle.eco_ids.proofs.Ascending.{first, second}
-use Rattle.eco_ids.proofs.Facts.{or_parts, or_right, id_eq_is}
-use Rattle.eco_ids.proofs.IdOrder.{entity_cmp_total}
 use Rattle.eco_traits.proofs.Members.{only, has_get, has_append, same_truth}
-use Rattle.eco_traits.specs.Target.{ClosesBy, FindsType, IsClosedBy, IsSound, AddLeadsTo, extended_by, left_by, type_of_record}
 use Rattle.eco_traits.proofs.Joined.{lacked, leads_to, some_record}
 
 -- ---- ascending ids

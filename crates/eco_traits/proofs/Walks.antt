@@ -1,27 +1,11 @@
 -- What an entity has, by its ids; the targets of its pairs; and walks along them.
-use Rattle.std.proofs.lemmas.Grind.{common_steps}
-use Rattle.std.proofs.Common.{arith}
-use Rattle.std.proofs.Common.{◌≡◌, ℕ, ◌+◌, ◌<◌, Bool, false, ◌||◌, ◌↔◌, ◌⊎◌, inl, inr, List, [], ◌∷◌, ◌++◌, length, take, get_or, refl, sym, ap, ◌∙◌, subst}
-use Rattle.std.proofs.Common.{true≢false, IsTrue, Option, Some, None, is_some, is_eq, option_map, option_to_list, unwrap_or}
-use Rattle.std.proofs.lemmas.List.{take_more}
-use Rattle.eco_ids.specs.declared.entity.Entity.{Entity}
-use Rattle.eco_ids.specs.declared.id.Id.{Id}
-use Rattle.eco_ids.specs.declared.id.Id.TheVariants.{One, Two}
-use Rattle.eco_ids.specs.Least.{Least, root, next}
-use Rattle.eco_ids.specs.Order.{id_cmp, id_eq, entity_cmp, entity_eq, has_item}
-use Rattle.eco_ids.specs.Traits.{Reaches}
-use Rattle.eco_ids.specs.World.{WorldState, Record, has, record_of}
-use Rattle.eco_ids.proofs.Keeps.{has_in}
-use Rattle.std.proofs.lemmas.Bool.{or_left}
-use Rattle.std.proofs.Math.Bool.{or-false, or_assoc}
-use Rattle.eco_ids.proofs.IdOrder.{same_entity}
-use Rattle.eco_ids.proofs.Exact.{keys, keys_find}
-use Rattle.eco_ids.proofs.Facts.{or_parts, or_right}
-use Rattle.eco_ids.proofs.Overlaps.{entity_eq_itself}
-use Rattle.std.specs.List.{list_any}
-use Rattle.eco_ids.specs.contracts.entity.EntityPartialEq.TheImpl as entity_impl
+use Rattle.eco_traits.proofs.Common.{common_steps, arith, ◌≡◌, ℕ, ◌+◌, ◌<◌, Bool, false, ◌||◌, ◌↔◌, ◌⊎◌, inl, inr, List, []}
+use Rattle.eco_traits.proofs.Common.{◌∷◌, ◌++◌, length, take, get_or, refl, sym, ap, ◌∙◌, subst, true≢false, IsTrue, Option, Some, None}
+use Rattle.eco_traits.proofs.Common.{is_some, is_eq, option_map, option_to_list, unwrap_or, take_more, Entity, Id, One, Two, Least, root, next, id_cmp, id_eq}
+use Rattle.eco_traits.proofs.Common.{entity_cmp, entity_eq, has_item, Reaches, WorldState, Record, has, record_of, has_in, or_left, or-false, or_assoc}
+use Rattle.eco_traits.proofs.Common.{same_entity, keys, keys_find, or_parts, or_right, entity_eq_itself, list_any, type_of_record, target_by_pair}
 use Rattle.eco_traits.proofs.Members.{only, has_append, list_any-derived}
-use Rattle.eco_traits.specs.Target.{type_of_record, target_by_pair}
+use Rattle.eco_ids.specs.contracts.entity.EntityPartialEq.TheImpl as entity_impl
 
 -- ---- what an entity has
 

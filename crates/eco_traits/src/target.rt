@@ -1,5 +1,6 @@
 //! The type that an add leads to.
-ghost use Rattle.std.specs.Prelude.{◌≡◌, ◌↔◌, ◌&&◌, false, IfOk, IfSome, IsFalse, IsTrue, Some, filter, find, fold, is_some, not, option_map, true, unwrap_or};
+ghost use Rattle.std.specs.Prelude.{◌≡◌, ◌↔◌, ◌&&◌, false, IfOk, IfSome, IsFalse, IsTrue, Some, filter, find, fold};
+ghost use Rattle.std.specs.Prelude.{is_some, not, option_map, true, unwrap_or};
 ghost use Rattle.std.specs.List.{list_any};
 ghost use Rattle.eco_ids.specs.Outcome.{is_out_of_memory};
 ghost use Rattle.eco_ids.specs.World.{has, is_alive as lives, record_of};
@@ -9,7 +10,8 @@ ghost use Rattle.eco_ids.specs.Step as step;
 ghost use Rattle.eco_ids.specs.World as world;
 ghost use Rattle.eco_traits.specs.Closure.{head_of};
 ghost use Rattle.eco_ids.specs.Traits.{Reaches};
-ghost use Rattle.eco_traits.specs.Target.{FindsTarget, FindsType, is_own_type, IsAmong, IsSound, TakesOwn, Replaces, extended_by, left_by, without_replaced, ties, type_of_entity};
+ghost use Rattle.eco_traits.specs.Target.{FindsTarget, FindsType, is_own_type, IsAmong, IsSound, TakesOwn, Replaces};
+ghost use Rattle.eco_traits.specs.Target.{extended_by, left_by, without_replaced, ties, type_of_entity};
 
 use crate::holdings::Holdings;
 use crate::implied::{brings_any, closure_by, head_of};

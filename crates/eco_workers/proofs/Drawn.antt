@@ -1,11 +1,8 @@
 -- Handles that were drawn, and their indices.
-use Rattle.std.proofs.Common.{◌≡◌, ℕ, ◌<◌, ◌≤◌, Bool, true, false, List, [], ◌∷◌, ◌++◌, length, map, refl, sym, ap, ◌∙◌, inl, inr, arith}
-use Rattle.std.proofs.lemmas.List.{append-nil, length-map}
+use Rattle.eco_workers.proofs.Common.{◌≡◌, ℕ, ◌<◌, ◌≤◌, Bool, true, false, List, [], ◌∷◌, ◌++◌, length, map, refl, sym, ap}
+use Rattle.eco_workers.proofs.Common.{◌∙◌, inl, inr, arith, append-nil, length-map, Refusal, NoMoreIds, Command, Broke, Took, fresh, stopped_by}
+use Rattle.eco_workers.proofs.Common.{IsStopped}
 use Rattle.eco_ids.specs.declared.entity.Entity.{Entity}
-use Rattle.eco_ids.specs.declared.refusal.Refusal.{Refusal}
-use Rattle.eco_ids.specs.declared.refusal.Refusal.TheVariants.{NoMoreIds}
-use Rattle.eco_ids.specs.Run.{Command}
-use Rattle.eco_stages.specs.Taking.{Broke, Took, fresh, stopped_by, IsStopped}
 
 -- what was drawn behind the first fresh handles are fresh handles too
 behind : (old new : List ℕ) (mine : List Entity) → map fresh new ≡ map fresh old ++ mine → (indices : List ℕ) × (new ≡ old ++ indices)

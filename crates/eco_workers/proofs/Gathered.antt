@@ -1,17 +1,10 @@
 -- What all workers have collected, after one more worker.
-use Rattle.std.proofs.Common.{◌≡◌, ℕ, Bool, true, ◌<◌, eqb, cond, List, [], ◌∷◌, ◌++◌, length, length-append, map, refl, sym, ap, ◌∙◌, arith}
-use Rattle.std.proofs.lemmas.Bool.Decides.{nat_tests}
-use Rattle.std.specs.List.{All, flat_map}
-use Rattle.std.proofs.lemmas.List.{map-append}
-use Rattle.std.proofs.lemmas.List.Elements.{All-append, All-nil, All-cons, All-head, All-tail}
-use Rattle.eco_workers.specs.declared.seat.Seat.{Seat}
-use Rattle.eco_workers.specs.Counting.{total, times, once, all_above, ascends}
-use Rattle.eco_workers.specs.Rounds.{claimed, drawn, is_done, done_count}
+use Rattle.eco_workers.proofs.Common.{◌≡◌, ℕ, Bool, true, ◌<◌, eqb, cond, List, [], ◌∷◌, ◌++◌, length, length-append, map, refl, sym, ap}
+use Rattle.eco_workers.proofs.Common.{◌∙◌, arith, nat_tests, All, flat_map, map-append, All-append, All-nil, All-cons, All-head, All-tail, Seat, total}
+use Rattle.eco_workers.proofs.Common.{times, once, all_above, ascends, claimed, drawn, is_done, done_count, Command, Collected, Entry, piece_of_entry, IsLog}
+use Rattle.eco_workers.proofs.Common.{IsGood, IsGathered}
 use Rattle.eco_workers.proofs.Popped.{popped_total}
 use Rattle.eco_workers.proofs.Totals.{total-append}
-use Rattle.eco_ids.specs.Run.{Command}
-use Rattle.eco_workers.specs.declared.collected.Collected.{Collected}
-use Rattle.eco_workers.specs.Entries.{Entry, piece_of_entry, IsLog, IsGood, IsGathered}
 
 pub times_flat : (x : ℕ) (log : List Entry) → times x (flat_map (λ (e : Entry). e.draws) log) ≡ total (λ (e : Entry). times x e.draws) log
 times_flat x [] = refl

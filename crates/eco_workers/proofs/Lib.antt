@@ -1,3 +1,4 @@
+pub mod Common
 pub mod Drawn
 pub mod Gathered
 pub mod Logs

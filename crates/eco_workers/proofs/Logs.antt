@@ -1,21 +1,9 @@
 -- What a worker has collected, after one more piece.
-use Rattle.std.proofs.Common.{◌≡◌, ℕ, ◌<◌, ◌≤◌, true, arith, List, [], ◌∷◌, ◌++◌, length, map, inr, refl, sym, ap, ◌∙◌, subst}
-use Rattle.std.specs.List.{All, flat_map}
-use Rattle.std.proofs.lemmas.List.{append-nil, map_push}
-use Rattle.std.proofs.lemmas.List.Concat.{flat_map-append}
-use Rattle.std.proofs.lemmas.List.Elements.{All-push, All-map, All-weaker, Contains-push}
-use Rattle.std.proofs.lemmas.Option.{slice_get_within}
-use Rattle.eco_workers.specs.Counting.{ascends}
+use Rattle.eco_workers.proofs.Common.{◌≡◌, ℕ, ◌<◌, ◌≤◌, true, arith, List, [], ◌∷◌, ◌++◌, length, map, inr, refl, sym, ap}
+use Rattle.eco_workers.proofs.Common.{◌∙◌, subst, All, flat_map, append-nil, map_push, flat_map-append, All-push, All-map, All-weaker, Contains-push}
+use Rattle.eco_workers.proofs.Common.{slice_get_within, ascends, Command, Collected, IsStopped, Entry, entry_of, share_of, piece_of_entry, IsEntry, IsLog}
+use Rattle.eco_workers.proofs.Common.{IsShare, IsShort, IsBroken, Refusal, NoMoreIds, OutOfMemory, Seat, claimed, drawn, is_dry}
 use Rattle.eco_workers.proofs.Turned.{short}
-use Rattle.eco_ids.specs.Run.{Command}
-use Rattle.eco_workers.specs.declared.collected.Collected.{Collected}
-use Rattle.eco_stages.specs.Taking.{IsStopped}
-use Rattle.eco_workers.specs.Entries.{Entry, entry_of, share_of, piece_of_entry, IsEntry, IsLog, IsShare, IsShort}
-use Rattle.eco_workers.specs.Workers.{IsBroken}
-use Rattle.eco_ids.specs.declared.refusal.Refusal.{Refusal}
-use Rattle.eco_ids.specs.declared.refusal.Refusal.TheVariants.{NoMoreIds, OutOfMemory}
-use Rattle.eco_workers.specs.declared.seat.Seat.{Seat}
-use Rattle.eco_workers.specs.Rounds.{claimed, drawn, is_dry}
 
 module _ {S : Type 0} (commands : S → List ℕ → List Command) (taken : S → List ℕ → ℕ) (pieces : List S) where
   pub log_same : (claimed claimed' drawn drawn' : List ℕ) (pushed pushed' : List Collected) (log : List Entry)

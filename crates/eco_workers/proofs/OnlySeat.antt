@@ -1,8 +1,5 @@
 -- A seat alone.
-use Rattle.std.proofs.Common.{◌≡◌, ℕ, ◌+◌, List, [], ◌∷◌, ap, ◌∙◌, arith}
-use Rattle.eco_workers.specs.Counting.{total, times, once}
-use Rattle.eco_workers.specs.Rounds.{claimed, drawn, Alone}
-use Rattle.eco_workers.specs.declared.seat.Seat.{Seat}
+use Rattle.eco_workers.proofs.Common.{◌≡◌, ℕ, ◌+◌, List, [], ◌∷◌, ap, ◌∙◌, arith, total, times, once, claimed, drawn, Alone, Seat}
 use Rattle.eco_workers.proofs.Turned.{in_turn}
 
 of_one : (f : Seat → ℕ) (seats : List Seat) (s : Seat) → seats ≡ s ∷ [] → f s ≡ total f seats

@@ -1,24 +1,13 @@
 -- Entries, each put at the place of its number.
-use Rattle.std.proofs.Common.{◌≡◌, ◌≢◌, ℕ, zero, suc, ◌+◌, ◌<◌, ◌≤◌, true, eqb, cond, List, [], ◌∷◌, ◌++◌, length, map, set, replicate, get_or, Some, refl}
-use Rattle.std.proofs.Common.{sym, ap, ◌∙◌, subst, arith}
-use Rattle.std.proofs.Common.{inl, inr}
+use Rattle.eco_workers.proofs.Common.{◌≡◌, ◌≢◌, ℕ, zero, suc, ◌+◌, ◌<◌, ◌≤◌, true, eqb, cond, List, [], ◌∷◌, ◌++◌, length}
+use Rattle.eco_workers.proofs.Common.{map, set, replicate, get_or, Some, refl, sym, ap, ◌∙◌, subst, arith, inl, inr, nat_tests, same_Some}
+use Rattle.eco_workers.proofs.Common.{slice_get_within, All, AllZip, Contains, slice_get, flat_map, concat, range_with_len, length-range_with_len}
+use Rattle.eco_workers.proofs.Common.{get_or-range_with_len, length-set, get_or-set_same, get_or-set_other, get_or-replicate, length-replicate, length-map}
+use Rattle.eco_workers.proofs.Common.{map-set, get_or-map, replicate_more, ext_get_or, get_or_default, get_or_past, All-head, All-tail, All-from_get_or}
+use Rattle.eco_workers.proofs.Common.{All-map, total, times, once, ascends, Command, Collected, Entry, piece_of_entry, IsStage, IsGood, IsShare, IsShort}
+use Rattle.eco_workers.proofs.Common.{IsShared, Seat, claimed, drawn, placed_stages, AreStages, IsBatch, IsOut}
 use Rattle.std.proofs.lemmas.Bool.{cases_eq, cases_lt}
-use Rattle.std.proofs.lemmas.Bool.Decides.{nat_tests}
-use Rattle.std.proofs.lemmas.Option.{same_Some, slice_get_within}
-use Rattle.std.specs.List.{All, AllZip, Contains, slice_get, flat_map, concat, range_with_len}
-use Rattle.std.proofs.lemmas.List.FromFn.{length-range_with_len, get_or-range_with_len}
-use Rattle.std.proofs.lemmas.List.{length-set, get_or-set_same, get_or-set_other, get_or-replicate, length-replicate, length-map, map-set, get_or-map}
-use Rattle.std.proofs.lemmas.List.{replicate_more}
-use Rattle.std.proofs.lemmas.List.{ext_get_or, get_or_default, get_or_past}
-use Rattle.std.proofs.lemmas.List.Elements.{All-head, All-tail, All-from_get_or, All-map}
-use Rattle.eco_workers.specs.Counting.{total, times, once, ascends}
-use Rattle.eco_ids.specs.Run.{Command}
-use Rattle.eco_workers.specs.declared.collected.Collected.{Collected}
-use Rattle.eco_workers.specs.Entries.{Entry, piece_of_entry, IsStage, IsGood, IsShare, IsShort, IsShared}
-use Rattle.eco_workers.specs.declared.seat.Seat.{Seat}
-use Rattle.eco_workers.specs.Rounds.{claimed, drawn}
 use Rattle.eco_workers.proofs.Turned.{in_turn}
-use Rattle.eco_workers.specs.Batches.{placed_stages, AreStages, IsBatch, IsOut}
 
 pub placed_push : (ps : List Collected) (p : Collected) (stages : List (List Command))
     → placed_stages (ps ++ p ∷ []) stages ≡ set (placed_stages ps stages) p.number p.stage

@@ -1,8 +1,5 @@
 -- The last of a list is taken.
-use Rattle.std.proofs.Common.{◌≡◌, ℕ, ◌+◌, List, [], ◌∷◌, ◌++◌, Some, ap, arith}
-use Rattle.std.specs.List.{All}
-use Rattle.std.proofs.lemmas.List.Elements.{All-pop}
-use Rattle.eco_workers.specs.Counting.{total}
+use Rattle.eco_workers.proofs.Common.{◌≡◌, ℕ, ◌+◌, List, [], ◌∷◌, ◌++◌, Some, ap, arith, All, All-pop, total}
 use Rattle.eco_workers.proofs.Totals.{total-append}
 
 module _ {X : Type 0} where

@@ -1,22 +1,9 @@
 -- What the seats of all workers have claimed and drawn, shared out among pieces, after one more worker.
-use Rattle.std.proofs.Common.{◌≡◌, ◌⊎◌, inl, inr, ℕ, zero, suc, Bool, true, cond, List, [], ◌∷◌, ◌++◌, map, sym, ap, ◌∙◌, subst, arith}
-use Rattle.std.specs.List.{All, Contains, flat_map}
-use Rattle.std.proofs.lemmas.List.{map_push}
-use Rattle.std.proofs.lemmas.List.Elements.{All-head, All-tail, All-append, All-nil, Contains-append_left, Contains-append_right}
+use Rattle.eco_workers.proofs.Common.{◌≡◌, ◌⊎◌, inl, inr, ℕ, zero, suc, Bool, true, cond, List, [], ◌∷◌, ◌++◌, map, sym, ap, ◌∙◌}
+use Rattle.eco_workers.proofs.Common.{subst, arith, All, Contains, flat_map, map_push, All-head, All-tail, All-append, All-nil, Contains-append_left}
+use Rattle.eco_workers.proofs.Common.{Contains-append_right, Seat, total, times, claimed, drawn, is_dry, Command, Refusal, NoMoreIds, Collected, Worked, End}
+use Rattle.eco_workers.proofs.Common.{Done, NoMemory, Refused, IsStopped, Entry, IsShare, IsShort, IsShared, IsFoundShort, HasEnded, IsStop, IsWorked, ends_of}
 use Rattle.eco_workers.specs.declared.round.Round.{Round}
-use Rattle.eco_workers.specs.declared.seat.Seat.{Seat}
-use Rattle.eco_workers.specs.Counting.{total, times}
-use Rattle.eco_workers.specs.Rounds.{claimed, drawn, is_dry}
-use Rattle.eco_ids.specs.Run.{Command}
-use Rattle.eco_ids.specs.declared.refusal.Refusal.{Refusal}
-use Rattle.eco_ids.specs.declared.refusal.Refusal.TheVariants.{NoMoreIds}
-use Rattle.eco_workers.specs.declared.collected.Collected.{Collected}
-use Rattle.eco_workers.specs.declared.worked.Worked.{Worked}
-use Rattle.eco_workers.specs.declared.end.End.{End}
-use Rattle.eco_workers.specs.declared.end.End.TheVariants.{Done, NoMemory, Refused}
-use Rattle.eco_stages.specs.Taking.{IsStopped}
-use Rattle.eco_workers.specs.Entries.{Entry, IsShare, IsShort, IsShared, IsFoundShort}
-use Rattle.eco_workers.specs.Workers.{HasEnded, IsStop, IsWorked, ends_of}
 use Rattle.eco_workers.proofs.Gathered.{claims_more, draws_more}
 use Rattle.eco_workers.proofs.Popped.{popped_total}
 use Rattle.eco_workers.proofs.Logs.{fair_log}

@@ -1,15 +1,8 @@
 -- What was found of the ends of workers.
-use Rattle.std.proofs.Common.{◌≡◌, ℕ, ◌+◌, ◌<◌, ◌≤◌, Bool, true, false, List, [], ◌∷◌, ◌++◌, length, take, get_or, Option, Some, None}
-use Rattle.std.proofs.Common.{refl, sym, ap, ◌∙◌, subst, inl, inr, arith}
-use Rattle.std.specs.List.{All}
-use Rattle.std.proofs.lemmas.List.{get_or-map, length-map, map_more, take_all}
-use Rattle.std.proofs.lemmas.List.Elements.{All-push, All-weaker, Contains-push, Contains-append_left}
-use Rattle.eco_ids.specs.declared.refusal.Refusal.{Refusal}
-use Rattle.eco_ids.specs.declared.refusal.Refusal.TheVariants.{OutOfMemory}
-use Rattle.eco_workers.specs.declared.worked.Worked.{Worked}
-use Rattle.eco_workers.specs.declared.end.End.{End}
-use Rattle.eco_workers.specs.declared.end.End.TheVariants.{Done, NoMemory, Refused}
-use Rattle.eco_workers.specs.Workers.{IsPast, IsUnrefused, IsFound, IsStop, ends_of}
+use Rattle.eco_workers.proofs.Common.{◌≡◌, ℕ, ◌+◌, ◌<◌, ◌≤◌, Bool, true, false, List, [], ◌∷◌, ◌++◌, length, take, get_or}
+use Rattle.eco_workers.proofs.Common.{Option, Some, None, refl, sym, ap, ◌∙◌, subst, inl, inr, arith, All, get_or-map, length-map, map_more, take_all}
+use Rattle.eco_workers.proofs.Common.{All-push, All-weaker, Contains-push, Contains-append_left, Refusal, OutOfMemory, Worked, End, Done, NoMemory, Refused}
+use Rattle.eco_workers.proofs.Common.{IsPast, IsUnrefused, IsFound, IsStop, ends_of}
 
 abbrev Past : ℕ → End → Type 0
 Past n d = IsPast n d

@@ -1,9 +1,6 @@
 -- Numbers that ascend: how many there are below a bound, and that they are all of them in turn where each stands once.
-use Rattle.std.proofs.Common.{◌≡◌, ℕ, zero, suc, ◌+◌, ◌<◌, ◌≤◌, true, eqb, cond, List, [], ◌∷◌, length, refl, sym, ap, ◌∙◌, arith}
-use Rattle.std.proofs.lemmas.Bool.Decides.{nat_tests}
-use Rattle.std.specs.List.{All, range_with_len}
-use Rattle.std.proofs.lemmas.List.Elements.{All-head, All-tail}
-use Rattle.eco_workers.specs.Counting.{times, once, all_above, ascends}
+use Rattle.eco_workers.proofs.Common.{◌≡◌, ℕ, zero, suc, ◌+◌, ◌<◌, ◌≤◌, true, eqb, cond, List, [], ◌∷◌, length, refl, sym, ap}
+use Rattle.eco_workers.proofs.Common.{◌∙◌, arith, nat_tests, All, range_with_len, All-head, All-tail, times, once, all_above, ascends}
 
 head_above : (z : ℕ) (zs : List ℕ) → ascends (z ∷ zs) ≡ true → all_above z zs ≡ true
 head_above z zs up = grind (arith, nat_tests)

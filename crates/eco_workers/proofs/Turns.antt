@@ -1,21 +1,12 @@
 -- Pieces that one worker records in turn.
-use Rattle.std.proofs.Common.{◌≡◌, ℕ, ◌+◌, ◌-◌, ◌<◌, ◌≤◌, List, [], ◌∷◌, ◌++◌, drop, get_or, length, map, refl, sym, take, ap, ◌∙◌, subst, arith}
-use Rattle.std.specs.List.{AllZip, concat, range_with_len}
+use Rattle.eco_workers.proofs.Common.{◌≡◌, ℕ, ◌+◌, ◌-◌, ◌<◌, ◌≤◌, List, [], ◌∷◌, ◌++◌, drop, get_or, length, map, refl, sym}
+use Rattle.eco_workers.proofs.Common.{take, ap, ◌∙◌, subst, arith, AllZip, concat, range_with_len, flat_map-append, append-nil, drop_more, length-take-le}
+use Rattle.eco_workers.proofs.Common.{take-append-drop, take_more, map-range_with_len_more, slice_get_read, Refusal, NoMoreIds, Command, IsInTurn, IsOutInTurn}
+use Rattle.eco_workers.proofs.Common.{all_of, AreStages, IsStage, Broke, Took, by_index, fresh, stopped_by}
 use Rattle.std.proofs.Math.Seq.{get_or-append_seam}
-use Rattle.std.proofs.lemmas.Grind.{flat_map-append}
-use Rattle.std.proofs.lemmas.List.{append-nil, drop_more, length-take-le, take-append-drop, take_more}
 use Rattle.std.proofs.lemmas.List.Folds.{concat-append}
-use Rattle.std.proofs.lemmas.List.FromFn.{map-range_with_len_more}
-use Rattle.std.proofs.lemmas.Option.{slice_get_read}
 use Rattle.eco_ids.specs.declared.entity.Entity.{Entity}
-use Rattle.eco_ids.specs.declared.refusal.Refusal.{Refusal}
-use Rattle.eco_ids.specs.declared.refusal.Refusal.TheVariants.{NoMoreIds}
-use Rattle.eco_ids.specs.Run.{Command}
 use Rattle.eco_workers.specs.declared.counter.Counter.{Counter}
-use Rattle.eco_workers.specs.Alone.{IsInTurn, IsOutInTurn, all_of}
-use Rattle.eco_workers.specs.Batches.{AreStages}
-use Rattle.eco_workers.specs.Entries.{IsStage}
-use Rattle.eco_stages.specs.Taking.{Broke, Took, by_index, fresh, stopped_by}
 use Rattle.eco_workers.proofs.Drawn.{broke_indices, took_behind}
 
 pub drawn_more : (base next : ℕ) → base ≤ next

@@ -1,25 +1,13 @@
 -- Whether some living entity has a pair.
+use Rattle.eco_world.proofs.Common.{true≢false, ◌≡◌, Bool, false, ◌||◌, List, [], ◌∷◌, is_some, refl, sym, ap, ◌∙◌, IsTrue, ◌↔◌}
+use Rattle.eco_world.proofs.Common.{false_from_ne_true, list_any, find, Entity, Id, One, Two, Value, pattern_matches, entity_eq, id_cmp, is_held, is_pair_of}
+use Rattle.eco_world.proofs.Common.{is_used, Record, WorldState, entities, has, living, record_of, passes_some, some_passes, entry_of, has_in, type_of_record}
+use Rattle.eco_world.proofs.Common.{exactly}
 use Rattle.std.proofs.Math.Bool.{and-true}
-use Rattle.std.proofs.Common.{true≢false, ◌≡◌, Bool, false, ◌||◌, List, [], ◌∷◌, is_some, refl, sym, ap, ◌∙◌, IsTrue, ◌↔◌}
-use Rattle.std.proofs.lemmas.Bool.{false_from_ne_true}
-use Rattle.std.specs.List.{list_any}
-use Rattle.std.specs.FinMap.Entries.{find}
-use Rattle.eco_ids.specs.declared.entity.Entity.{Entity}
-use Rattle.eco_ids.specs.declared.id.Id.{Id}
-use Rattle.eco_ids.specs.declared.id.Id.TheVariants.{One, Two}
 use Rattle.eco_ids.specs.declared.pattern.Part.TheVariants.{Is, Any}
-use Rattle.eco_ids.specs.declared.pattern.Pattern.TheVariants as pattern
-use Rattle.eco_ids.specs.declared.value.Value.{Value}
-use Rattle.eco_ids.specs.Matching.{pattern_matches}
-use Rattle.eco_ids.specs.Order.{entity_eq, id_cmp}
-use Rattle.eco_ids.specs.Step.{is_held, is_pair_of, is_used}
-use Rattle.eco_ids.specs.World.{Record, WorldState, entities, has, living, record_of}
-use Rattle.eco_ids.proofs.Passing.{passes_some, some_passes}
-use Rattle.eco_ids.proofs.Keeps.{entry_of, has_in}
-use Rattle.eco_traits.specs.Target.{type_of_record}
-use Rattle.eco_query.specs.Queries.{exactly}
 use Rattle.eco_world.proofs.Holders.{exactly_held}
 use Rattle.eco_world.proofs.Held.{Held, keys}
+use Rattle.eco_ids.specs.declared.pattern.Pattern.TheVariants as pattern
 
 -- ---- a pair of a relationship
 

@@ -1,14 +1,6 @@
 -- What is found for a query's slots with their accesses is found for what they ask.
-use Rattle.std.proofs.Common.{◌≡◌, ℕ, ◌&&◌, Bool, List, [], ◌∷◌, Some, IsTrue, slice_get, refl, ap, subst}
-use Rattle.eco_ids.specs.declared.id.Id.{Id}
-use Rattle.eco_ids.specs.declared.refusal.Refusal.TheVariants.{OutOfMemory}
-use Rattle.eco_ids.specs.Layout.{ListedTable}
-use Rattle.eco_ids.specs.World.{WorldState}
-use Rattle.eco_query.specs.Queries.{QuerySlot, holds, matches_type}
-use Rattle.eco_answers.specs.Answers.{asked}
-use Rattle.eco_world.specs.Cached.{ListsFor, OfQuery, RefusesQuery, all_slots_hold}
-use Rattle.eco_world.specs.Layouts.{ListsBy}
-use Rattle.eco_world.specs.Queries.{is_passed}
+use Rattle.eco_world.proofs.Common.{◌≡◌, ℕ, ◌&&◌, Bool, List, [], ◌∷◌, Some, IsTrue, slice_get, refl, ap, subst, Id, OutOfMemory, ListedTable}
+use Rattle.eco_world.proofs.Common.{WorldState, QuerySlot, holds, matches_type, asked, ListsFor, OfQuery, RefusesQuery, all_slots_hold, ListsBy, is_passed}
 
 -- a type matches the query where what the query asks holds on it
 fulfilled : (q : List QuerySlot) (ids : List Id) → matches_type ids q ≡ all_slots_hold (asked q) ids

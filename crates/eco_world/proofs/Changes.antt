@@ -1,26 +1,11 @@
 -- What the store makes of an entity's record, and what a step makes of it.
-use Rattle.std.proofs.Common.{◌≡◌, Bool, true, false, cond, ◌&&◌, T, List, [], ◌∷◌, Option, Some, None, option_map, unwrap_or, refl, sym, ap, ◌∙◌, subst}
-use Rattle.std.proofs.Common.{is_some, true≢false, IsTrue, MatchBool, Result, Ok, Err, OnOk, OnErr}
-use Rattle.std.proofs.lemmas.Bool.{false_from_ne_true}
-use Rattle.std.specs.List.{list_any}
-use Rattle.std.specs.FinMap.Entries.{find, is_sorted}
-use Rattle.eco_ids.specs.declared.entity.Entity.{Entity}
-use Rattle.eco_ids.specs.declared.id.Id.{Id}
-use Rattle.eco_ids.specs.declared.value.Value.{Value}
-use Rattle.eco_ids.specs.Indices.{Living, change_kept}
-use Rattle.eco_ids.specs.Lawful.{IsLawful}
-use Rattle.eco_ids.specs.Losses.{keeping, without, nobody}
-use Rattle.eco_ids.specs.Order.{id_cmp, id_eq, entity_eq, has_item, with_item, without_item}
-use Rattle.eco_ids.specs.Step.{changed, with_value}
-use Rattle.eco_ids.specs.World.{WorldState, Record, entities, with_entities, has, held_by, is_alive, record_of, with_record}
-use Rattle.eco_ids.proofs.Exact.{keys_find}
-use Rattle.eco_ids.proofs.Facts.{id_eq_is, not_both}
-use Rattle.eco_ids.proofs.Losses.{keeps_all, without_one}
-use Rattle.eco_ids.proofs.Records.{living_state}
+use Rattle.eco_world.proofs.Common.{◌≡◌, Bool, true, false, cond, ◌&&◌, T, List, [], ◌∷◌, Option, Some, None, option_map, unwrap_or, refl, sym}
+use Rattle.eco_world.proofs.Common.{ap, ◌∙◌, subst, is_some, true≢false, IsTrue, MatchBool, Result, Ok, Err, OnOk, OnErr, false_from_ne_true, list_any}
+use Rattle.eco_world.proofs.Common.{find, is_sorted, Entity, Id, Value, Living, change_kept, IsLawful, keeping, without, nobody, id_cmp, id_eq, entity_eq}
+use Rattle.eco_world.proofs.Common.{has_item, with_item, without_item, changed, with_value, WorldState, Record, entities, with_entities, has, held_by, is_alive}
+use Rattle.eco_world.proofs.Common.{record_of, with_record, keys_find, id_eq_is, not_both, keeps_all, without_one, living_state, record_ids, with_exchanged}
+use Rattle.eco_world.proofs.Common.{with_toggled, with_type, record_with_written, type_of_entity, type_of_record, type_of}
 use Rattle.eco_ids.proofs.Lists.{set_own}
-use Rattle.eco_store.specs.Store.{record_ids, with_exchanged, with_toggled, with_type, record_with_written}
-use Rattle.eco_traits.specs.Target.{type_of_entity, type_of_record}
-use Rattle.eco_world.specs.Types.{type_of}
 use Rattle.eco_world.proofs.Held.{Held, keys, none_written, retyped_without, written_is}
 
 -- what holds of either state that a call may leave, as it is seen, holds of the one that it left

@@ -1,31 +1,14 @@
 -- What is data has fields in the tables, and so its values are found there.
-use Rattle.std.proofs.Common.{◌≡◌, ◌≤◌, ◌<◌, ℕ, Bool, true, false, not, ◌&&◌, ◌||◌, ◌==◌, nat_lt, List, [], ◌∷◌, get_or, length, Option}
-use Rattle.std.proofs.Common.{None, Some, is_some, option_and_then, option_map, unwrap_or, if◌then◌else◌, IfSome, IsSome, IsTrue, MatchOption}
-use Rattle.std.proofs.Common.{arith, refl, sym, ap, subst, ◌∙◌, true≢false}
-use Rattle.std.specs.Option.{option_or}
-use Rattle.std.specs.FinMap.Entries.{find}
-use Rattle.std.proofs.lemmas.Bool.Decides.{nat_tests}
-use Rattle.std.proofs.lemmas.Option.{none-some}
-use Rattle.eco_ids.specs.declared.entity.Entity.{Entity}
-use Rattle.eco_ids.specs.declared.id.Id.{Id}
-use Rattle.eco_ids.specs.declared.id.Id.TheVariants.{One, Two}
-use Rattle.eco_ids.specs.declared.value.Value.{Value}
-use Rattle.eco_ids.specs.declared.value.TheConstants.{FIELD_COUNT}
-use Rattle.eco_ids.specs.Builtin.{is_builtin}
-use Rattle.eco_ids.specs.Data.{arity, arity_of, is_zero_past, value_of}
-use Rattle.eco_ids.specs.Lawful.{IsLawful, is_proper_arity}
-use Rattle.eco_ids.specs.Order.{id_cmp, id_eq, has_item}
-use Rattle.eco_ids.specs.World.{WorldState, Record, entities, held_by, record_of}
-use Rattle.eco_ids.proofs.Ascending.{second}
-use Rattle.eco_ids.proofs.Exact.{id_eq_sym}
+use Rattle.eco_world.proofs.Common.{◌≡◌, ◌≤◌, ◌<◌, ℕ, Bool, true, false, not, ◌&&◌, ◌||◌, ◌==◌, nat_lt, List, [], ◌∷◌}
+use Rattle.eco_world.proofs.Common.{get_or, length, Option, None, Some, is_some, option_and_then, option_map, unwrap_or, if◌then◌else◌, IfSome, IsSome}
+use Rattle.eco_world.proofs.Common.{IsTrue, MatchOption, arith, refl, sym, ap, subst, ◌∙◌, true≢false, option_or, find, nat_tests, none-some, Entity}
+use Rattle.eco_world.proofs.Common.{Id, One, Two, Value, FIELD_COUNT, is_builtin, arity, arity_of, is_zero_past, value_of, IsLawful, is_proper_arity, id_cmp}
+use Rattle.eco_world.proofs.Common.{id_eq, has_item, WorldState, Record, entities, held_by, record_of, second, id_eq_sym, TableState, TableRow, paired}
+use Rattle.eco_world.proofs.Common.{width_in, no_row, KeepsData, Stands}
 use Rattle.eco_entities.specs.Needs.{fields_for}
 use Rattle.eco_tables.specs.Kept.{IsUnkept}
-use Rattle.eco_tables.specs.Table.{TableState, TableRow, paired, width_in}
-use Rattle.eco_tables.specs.Tables.{no_row}
-use Rattle.eco_store.specs.Store as store
-use Rattle.eco_store.specs.Lent.{KeepsData}
-use Rattle.eco_store.specs.Store.{Stands}
 use Rattle.eco_world.specs.Refs.{StandsInRow}
+use Rattle.eco_store.specs.Store as store
 
 -- ---- an arity is one field at least
 

@@ -1,26 +1,12 @@
 -- The cleanup's answer, seen as a delete of the world.
-use Rattle.std.proofs.Common.{◌≡◌, true, false, true≢false, ◌↔◌, List, [], ◌∷◌, IsTrue, Result, sym, subst, is_some, inl, inr}
-use Rattle.std.specs.FinMap.Entries.{find}
-use Rattle.eco_ids.specs.declared.entity.Entity.{Entity}
-use Rattle.eco_ids.specs.declared.entity.TheConstants.{DELETE}
-use Rattle.eco_ids.specs.declared.id.Id.{Id}
-use Rattle.eco_ids.specs.declared.refusal.Refusal.{Refusal}
-use Rattle.eco_ids.specs.Builtin.{is_builtin, is_builtins}
-use Rattle.eco_ids.specs.Cleanup.{Deletes, Ends, HoldsOn, IsDoomed}
-use Rattle.eco_ids.specs.Delete.{DeletesOne, DeletesWith, may_delete, may_delete_with}
-use Rattle.eco_ids.specs.Least.{Least, root, next}
-use Rattle.eco_ids.specs.Order.{entity_cmp, entity_eq, has_item, id_cmp}
-use Rattle.eco_ids.specs.Outcome.{Meets}
-use Rattle.eco_ids.specs.World.{WorldState, has, is_alive, entities, record_of}
+use Rattle.eco_world.proofs.Common.{◌≡◌, true, false, true≢false, ◌↔◌, List, [], ◌∷◌, IsTrue, Result, sym, subst, is_some, inl, inr, find}
+use Rattle.eco_world.proofs.Common.{Entity, DELETE, Id, Refusal, is_builtin, is_builtins, Deletes, Ends, HoldsOn, IsDoomed, DeletesOne, DeletesWith, may_delete}
+use Rattle.eco_world.proofs.Common.{may_delete_with, Least, root, next, entity_cmp, entity_eq, has_item, id_cmp, Meets, WorldState, has, is_alive, entities}
+use Rattle.eco_world.proofs.Common.{record_of, or_left, or_parts, entry_of, has_in, least, entity_eq_is, entity_eq_itself, own_from_passed, passed_from_own}
+use Rattle.eco_world.proofs.Common.{holders}
 use Rattle.eco_ids.proofs.DeletesEnd.{deletes_end}
-use Rattle.eco_ids.proofs.Facts.{or_left, or_parts}
-use Rattle.eco_ids.proofs.Keeps.{entry_of, has_in}
 use Rattle.eco_ids.proofs.Listable.{decide_bool}
 use Rattle.eco_ids.proofs.LivingLists.{has_alive}
-use Rattle.eco_ids.proofs.Meaning.{least}
-use Rattle.eco_ids.proofs.Overlaps.{entity_eq_is, entity_eq_itself}
-use Rattle.eco_ids.proofs.Passing.{own_from_passed, passed_from_own}
-use Rattle.eco_world.specs.Queries.{holders}
 use Rattle.eco_world.proofs.Steps.{meets_as}
 
 -- the same roots in other words take the same

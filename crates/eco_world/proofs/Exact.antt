@@ -1,33 +1,14 @@
 -- What the laws of listings, added queries and merges say.
-use Rattle.std.proofs.Common.{◌≡◌, ◌≤◌, ◌+◌, ◌↔◌, ℕ, zero, suc, Bool, true, false, cond, ◌&&◌, List, [], ◌∷◌, ◌++◌, filter, length, slice_get}
-use Rattle.std.proofs.Common.{IsTrue, IsFalse, Contains, Option, Some, None, option_map, Result, Ok, Err, MatchBool, MatchOption, refl, sym, ap, ◌∙◌, subst}
-use Rattle.std.proofs.Common.{arith}
-use Rattle.std.proofs.Common.{true≢false, inl, inr, ◌⊎◌, ◌||◌, is_some, unwrap_or, nat_lt, le-leb, length-append}
-use Rattle.std.proofs.lemmas.List.{append-nil}
-use Rattle.std.proofs.lemmas.List.Elements.{All-contains, All-contains_itself, All-filter, filter_passes}
-use Rattle.std.proofs.lemmas.Option.{none-some, slice_get-map, slice_get_past}
-use Rattle.eco_ids.specs.declared.id.Id.{Id}
-use Rattle.eco_ids.specs.declared.refusal.Refusal.{Refusal}
-use Rattle.eco_ids.specs.declared.refusal.Refusal.TheVariants.{NoMoreIds, NoSuchQuery, OutOfMemory}
-use Rattle.eco_ids.specs.Births.{Admits, may_admit}
-use Rattle.eco_ids.specs.Indices.{Indexed, admitted}
-use Rattle.eco_ids.specs.Layout.{ListedTable}
-use Rattle.eco_ids.specs.Lawful.{IsLawful}
-use Rattle.eco_ids.specs.Outcome.{Answers, Refuses, is_out_of_memory}
-use Rattle.eco_ids.specs.Run.{Command, Runs}
-use Rattle.eco_ids.specs.Terms.{QueryTerm}
-use Rattle.eco_ids.specs.declared.value.Value.{Value}
-use Rattle.eco_ids.specs.Data.{arity}
-use Rattle.eco_ids.specs.World.{OnEntities, Record, WorldState, entities, held_by, with_entities, zeros}
-use Rattle.eco_tables.specs.Column.{value_in}
+use Rattle.eco_world.proofs.Common.{◌≡◌, ◌≤◌, ◌+◌, ◌↔◌, ℕ, zero, suc, Bool, true, false, cond, ◌&&◌, List, [], ◌∷◌, ◌++◌}
+use Rattle.eco_world.proofs.Common.{filter, length, slice_get, IsTrue, IsFalse, Contains, Option, Some, None, option_map, Result, Ok, Err, MatchBool}
+use Rattle.eco_world.proofs.Common.{MatchOption, refl, sym, ap, ◌∙◌, subst, arith, true≢false, inl, inr, ◌⊎◌, ◌||◌, is_some, unwrap_or}
+use Rattle.eco_world.proofs.Common.{nat_lt, le-leb, length-append, append-nil, All-contains, All-contains_itself, All-filter, filter_passes, none-some}
+use Rattle.eco_world.proofs.Common.{slice_get-map, slice_get_past, Id, Refusal, NoMoreIds, NoSuchQuery, OutOfMemory, Admits, may_admit, Indexed, admitted}
+use Rattle.eco_world.proofs.Common.{ListedTable, IsLawful, Answers, Refuses, is_out_of_memory, Command, Runs, QueryTerm, Value, arity, OnEntities, Record}
+use Rattle.eco_world.proofs.Common.{WorldState, entities, held_by, with_entities, zeros, value_in, not_ok, Outcomes, OfQuery, RefusesQuery, ListsBy}
+use Rattle.eco_world.proofs.Common.{has_commands, Merges, RunsAdmitted, may_merge}
 use Rattle.eco_world.specs.declared.query_id.QueryId.{QueryId}
-use Rattle.eco_ids.proofs.Facts.{not_ok}
-use Rattle.eco_stages.specs.Outcomes.{Outcomes}
-use Rattle.eco_world.specs.Cached.{OfQuery, RefusesQuery}
 use Rattle.eco_world.specs.Laws.{AddedQueriesAreFound, EmptyMergesWantNone, RefusedMergesChangeNothing, StandWhere, ValuesAreLent}
-use Rattle.eco_world.specs.Layouts.{ListsBy}
-use Rattle.eco_stages.specs.Merging.{has_commands}
-use Rattle.eco_world.specs.Merging.{Merges, RunsAdmitted, may_merge}
 use Rattle.eco_world.proofs.Layouts.{element_cases, here, no_element, there}
 
 -- ---- listings

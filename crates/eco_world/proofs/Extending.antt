@@ -1,44 +1,21 @@
 -- An add is the type that it leads to, and a set is an add and a write.
-use Rattle.std.proofs.Common.{◌≡◌, Bool, true, false, cond, not, ◌&&◌, List, [], map, Option, Some, None, option_map, unwrap_or, refl, sym, ap, ◌∙◌, subst}
-use Rattle.std.proofs.Common.{is_some, true≢false, IsTrue, MatchOption, MatchBool, Result, Ok, Err}
-use Rattle.std.specs.List.{list_any}
-use Rattle.std.specs.Option.{option_or}
-use Rattle.std.specs.FinMap.Entries.{find, where_key}
-use Rattle.eco_ids.specs.declared.entity.Entity.{Entity}
-use Rattle.eco_ids.specs.declared.id.Id.{Id}
-use Rattle.eco_ids.specs.declared.id.Id.TheVariants.{One, Two}
-use Rattle.eco_ids.specs.declared.refusal.Refusal.{Refusal}
-use Rattle.eco_ids.specs.declared.refusal.Refusal.TheVariants.{DeadId, OutOfMemory}
-use Rattle.eco_ids.specs.declared.value.Value.{Value}
-use Rattle.eco_ids.specs.Builtin.{is_builtin}
-use Rattle.eco_ids.specs.Losses.{without, nobody}
-use Rattle.eco_ids.specs.Mirrors.{goes_too, mirror_of}
+use Rattle.eco_world.proofs.Common.{◌≡◌, Bool, true, false, cond, not, ◌&&◌, List, [], map, Option, Some, None, option_map, unwrap_or, refl, sym, ap}
+use Rattle.eco_world.proofs.Common.{◌∙◌, subst, is_some, true≢false, IsTrue, MatchOption, MatchBool, Result, Ok, Err, list_any, option_or, find}
+use Rattle.eco_world.proofs.Common.{where_key, Entity, Id, One, Two, Refusal, DeadId, OutOfMemory, Value, is_builtin, without, nobody, goes_too, mirror_of}
+use Rattle.eco_world.proofs.Common.{IsLawful, id_cmp, has_item, Meets, Answers, Refuses, is_out_of_memory, changed, grown, with_value, with_closure}
+use Rattle.eco_world.proofs.Common.{is_replaced, is_pair_of, IsClosure, Judges, Loses, Extends, Adds, unfit, unchanged, Sets, unfit_set, unfit_actor}
+use Rattle.eco_world.proofs.Common.{is_reserved, with_mirror, WorldState, Record, zeros, has, names_living, is_exclusive, record_of, with_record, is_alive}
+use Rattle.eco_world.proofs.Common.{changed_is, changed_unchanged, zeros_have, keys_find, second, not_ok, not_true, with_type, ExtendsTo, FindsTarget}
+use Rattle.eco_world.proofs.Common.{FindsType, IsOwnType, IsTypeAfter, type_meant, type_of_entity, type_of_record, value_in, MaySet, type_of, IsAlone}
 use Rattle.eco_ids.specs.Laws.{Keeps, AddsExactly, AddsOnce}
-use Rattle.eco_ids.specs.Lawful.{IsLawful}
-use Rattle.eco_ids.specs.Order.{id_cmp, has_item}
-use Rattle.eco_ids.specs.Outcome.{Meets, Answers, Refuses, is_out_of_memory}
-use Rattle.eco_ids.specs.Step as step
-use Rattle.eco_ids.specs.Step.{changed, grown, with_value, with_closure, is_replaced, is_pair_of, IsClosure, Judges, Loses, Extends, Adds, unfit, unchanged}
-use Rattle.eco_ids.specs.Step.{Sets, unfit_set, unfit_actor, is_reserved, with_mirror}
-use Rattle.eco_ids.specs.World.{WorldState, Record, zeros, has, names_living, is_exclusive, record_of, with_record, is_alive}
-use Rattle.eco_ids.proofs.Records.{changed_is, changed_unchanged}
-use Rattle.eco_ids.proofs.Closures.{zeros_have}
-use Rattle.eco_ids.proofs.Exact.{keys_find}
 use Rattle.eco_ids.proofs.Grown.{grown_at}
 use Rattle.eco_ids.proofs.Steps.{has_itself}
-use Rattle.eco_ids.proofs.Ascending.{second}
-use Rattle.eco_ids.proofs.Facts.{not_ok, not_true}
-use Rattle.eco_store.specs.Store.{with_type}
 use Rattle.eco_traits.specs.declared.target.Target.{Target}
-use Rattle.eco_traits.specs.Target.{ExtendsTo, FindsTarget, FindsType, IsOwnType, IsTypeAfter, type_meant, type_of_entity, type_of_record}
-use Rattle.eco_tables.specs.Column.{value_in}
-use Rattle.eco_world.specs.Actor.{MaySet}
-use Rattle.eco_world.specs.Types.{type_of}
 use Rattle.eco_world.proofs.Changes.{held_at, sorted_at}
-use Rattle.eco_world.specs.Losses.{IsAlone}
 use Rattle.eco_world.proofs.Held.{retyped_is}
 use Rattle.eco_world.proofs.Mirroring.{alone_typed, left_value}
 use Rattle.eco_world.proofs.Steps.{meets_as}
+use Rattle.eco_ids.specs.Step as step
 
 -- ---- a closure more
 

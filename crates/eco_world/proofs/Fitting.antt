@@ -1,30 +1,10 @@
 -- Values that fit an id in the world fit it in the store, and in the world that is written to.
-use Rattle.std.proofs.Common.{◌≡◌, ◌==◌, ◌&&◌, ℕ, zero, suc, Bool, true, false, IsTrue, List, [], ◌∷◌, drop, length, None, Some, option_and_then, unwrap_or}
-use Rattle.std.proofs.Common.{if◌then◌else◌, cond, refl, sym, ap, ◌∙◌, inl, inr}
-use Rattle.std.specs.List.{list_all}
-use Rattle.std.specs.Option.{option_or}
-use Rattle.std.specs.FinMap.Entries.{find, put, find-put}
-use Rattle.eco_ids.specs.declared.edition.Edition.{Edition}
-use Rattle.eco_ids.specs.declared.entity.Entity.{Entity}
-use Rattle.eco_ids.specs.declared.id.Id.{Id}
-use Rattle.eco_ids.specs.declared.id.Id.TheVariants.{One, Two}
-use Rattle.eco_ids.specs.declared.value.Value.{Value}
-use Rattle.eco_ids.specs.declared.value.TheConstants.{FIELD_COUNT}
-use Rattle.eco_ids.specs.Builtin.{is_builtin}
-use Rattle.eco_ids.specs.Data.{arity_of, fits, is_zero_past}
-use Rattle.eco_ids.specs.Indices.{Indexed}
-use Rattle.eco_ids.specs.Lawful.{IsLawful}
-use Rattle.eco_ids.specs.Order.{id_cmp}
-use Rattle.eco_ids.specs.Step.{changed, with_value}
-use Rattle.eco_ids.specs.World.{WorldState, Record, has, record_of}
-use Rattle.eco_ids.proofs.Ascending.{both, first, second}
-use Rattle.eco_ids.proofs.Facts.{same_or_apart, id_eq_itself}
-use Rattle.eco_ids.proofs.IdOrder.{id_cmp_total}
-use Rattle.eco_ids.proofs.Keeps.{Named, entry_of, fits_still}
-use Rattle.eco_ids.proofs.Records.{write_change}
+use Rattle.eco_world.proofs.Common.{◌≡◌, ◌==◌, ◌&&◌, ℕ, zero, suc, Bool, true, false, IsTrue, List, [], ◌∷◌, drop, length, None, Some}
+use Rattle.eco_world.proofs.Common.{option_and_then, unwrap_or, if◌then◌else◌, cond, refl, sym, ap, ◌∙◌, inl, inr, list_all, option_or, find, put}
+use Rattle.eco_world.proofs.Common.{find-put, Edition, Entity, Id, One, Two, Value, FIELD_COUNT, is_builtin, arity_of, fits, is_zero_past, Indexed, IsLawful}
+use Rattle.eco_world.proofs.Common.{id_cmp, changed, with_value, WorldState, Record, has, record_of, both, first, second, same_or_apart, id_eq_itself}
+use Rattle.eco_world.proofs.Common.{id_cmp_total, Named, entry_of, fits_still, write_change, QueryTerm, world_with}
 use Rattle.eco_store.specs.Store as store
-use Rattle.eco_ids.specs.Terms.{QueryTerm}
-use Rattle.eco_world.specs.Worlds.{world_with}
 
 all_past : {X : Type 0} (t : X → Bool) (n : ℕ) (xs : List X) → IsTrue (list_all t xs) → IsTrue (list_all t (drop n xs))
 all_past t zero xs all = all

@@ -1,21 +1,10 @@
 -- Ids with values, in the order of the ids.
-use Rattle.std.proofs.Common.{arith, ◌≡◌, Bool, true, false, cond, not, ◌&&◌, T, List, [], ◌∷◌, map, Option, Some, None, option_map, unwrap_or, refl, sym, ap}
-use Rattle.std.proofs.Common.{◌∙◌, subst, is_some, is_eq, is_lt, Ordering, Less, Equal, Greater, true≢false}
-use Rattle.std.proofs.lemmas.Option.{same_Some, none-some}
-use Rattle.std.specs.FinMap.Entries.{find, put, by_order, where_key, is_sorted, below_all, is_sorted-where_key, find-where_key}
-use Rattle.eco_ids.specs.declared.id.Id.{Id}
-use Rattle.eco_ids.specs.declared.value.Value.{Value}
-use Rattle.eco_ids.specs.Order.{id_cmp, id_eq, has_item, without_item}
-use Rattle.eco_ids.specs.declared.entity.Entity.{Entity}
-use Rattle.eco_ids.specs.World.{Record, WorldState, has, zeros, record_of}
-use Rattle.eco_traits.specs.Target.{type_of_record}
-use Rattle.eco_world.specs.Types.{type_of}
+use Rattle.eco_world.proofs.Common.{arith, ◌≡◌, Bool, true, false, cond, not, ◌&&◌, T, List, [], ◌∷◌, map, Option, Some, None, option_map}
+use Rattle.eco_world.proofs.Common.{unwrap_or, refl, sym, ap, ◌∙◌, subst, is_some, is_eq, is_lt, Ordering, Less, Equal, Greater, true≢false, same_Some}
+use Rattle.eco_world.proofs.Common.{none-some, find, put, by_order, where_key, is_sorted, below_all, is_sorted-where_key, find-where_key, Id, Value, id_cmp}
+use Rattle.eco_world.proofs.Common.{id_eq, has_item, without_item, Entity, Record, WorldState, has, zeros, record_of, type_of_record, type_of, id_eq_sym}
+use Rattle.eco_world.proofs.Common.{keys_find, keys_kept, id_eq_itself, id_cmp_total, same_id, first_T, second_T, value_in, retyped, with_held}
 use Rattle.eco_ids.proofs.Entries.{apart, none_below}
-use Rattle.eco_ids.proofs.Exact.{id_eq_sym, keys_find, keys_kept}
-use Rattle.eco_ids.proofs.Facts.{id_eq_itself}
-use Rattle.eco_ids.proofs.IdOrder.{id_cmp_total, same_id}
-use Rattle.eco_ids.proofs.Ascending.{first_T, second_T}
-use Rattle.eco_tables.specs.Column.{value_in, retyped, with_held}
 
 abbrev pub Held : Type 0
 Held = List (Id × Value)

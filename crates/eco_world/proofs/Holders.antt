@@ -1,21 +1,11 @@
 -- Who has an id, as a store finds them by the pattern of that id.
-use Rattle.std.proofs.Common.{◌≡◌, true, false, cond, ◌||◌, List, [], ◌∷◌, map, filter, Some, refl, ap, ◌∙◌, is_some}
-use Rattle.std.specs.List.{list_any}
-use Rattle.std.specs.FinMap.Entries.{find}
-use Rattle.eco_ids.specs.declared.entity.Entity.{Entity}
-use Rattle.eco_ids.specs.declared.id.Id.{Id}
-use Rattle.eco_ids.specs.declared.id.Id.TheVariants as id
-use Rattle.eco_ids.specs.declared.value.Value.{Value}
-use Rattle.eco_ids.specs.Matching.{pattern_matches}
-use Rattle.eco_ids.specs.Order.{id_cmp, id_eq}
+use Rattle.eco_world.proofs.Common.{◌≡◌, true, false, cond, ◌||◌, List, [], ◌∷◌, map, filter, Some, refl, ap, ◌∙◌, is_some, list_any}
+use Rattle.eco_world.proofs.Common.{find, Entity, Id, Value, pattern_matches, id_cmp, id_eq, WorldState, Record, entities, exactly, has_match, holders}
 use Rattle.eco_ids.specs.Indices.{living}
-use Rattle.eco_ids.specs.World.{WorldState, Record, entities}
-use Rattle.eco_query.specs.Queries.{exactly}
-use Rattle.eco_store.specs.Holders as store
-use Rattle.eco_store.specs.Holders.{has_match}
 use Rattle.eco_ids.proofs.Pairs.{parts_are_same}
-use Rattle.eco_world.specs.Queries.{holders}
 use Rattle.eco_world.proofs.Held.{keys}
+use Rattle.eco_ids.specs.declared.id.Id.TheVariants as id
+use Rattle.eco_store.specs.Holders as store
 
 -- the pattern matches the id alone
 pub matches_exactly : (i j : Id) → pattern_matches (exactly i) j ≡ id_eq i j

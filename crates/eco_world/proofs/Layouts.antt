@@ -1,28 +1,13 @@
 -- Lists of tables that ascend by type, and a whole layout around those of some types.
-use Rattle.std.proofs.Common.{◌≡◌, ◌≢◌, ℕ, zero, suc, ◌<◌, Bool, true, false, cond, List, [], ◌∷◌, map, filter, length, get_or, refl, sym, ap, ◌∙◌}
-use Rattle.std.proofs.Common.{subst, arith, suc-add, zero-le, le_of_suc-le-suc, IsTrue, IsSortedBy, Ordering, Less, Equal, Greater, is_eq, is_lt, true≢false}
-use Rattle.std.proofs.Common.{◌⊎◌, inl, inr, ◌↔◌, Contains}
+use Rattle.eco_world.proofs.Common.{◌≡◌, ◌≢◌, ℕ, zero, suc, ◌<◌, Bool, true, false, cond, List, [], ◌∷◌, map, filter, length, get_or}
+use Rattle.eco_world.proofs.Common.{refl, sym, ap, ◌∙◌, subst, arith, suc-add, zero-le, le_of_suc-le-suc, IsTrue, IsSortedBy, Ordering, Less, Equal}
+use Rattle.eco_world.proofs.Common.{Greater, is_eq, is_lt, true≢false, ◌⊎◌, inl, inr, ◌↔◌, Contains, slice_cmp, lists_total, by_order, All}
+use Rattle.eco_world.proofs.Common.{AllByRecursion, IsDistinct, list_all, IsPermutation, ordering_reverse, ordering_then, eq_by_cmp, get_or-map, length-map}
+use Rattle.eco_world.proofs.Common.{Contains-get_or, Contains-permutation, IsPermutation-map, IsPermutation-sym, ranks_by, sorted_far, Entity, Id, ListedTable}
+use Rattle.eco_world.proofs.Common.{IsLayout, is_distinct, has_item, id_cmp, is_ascending, with_item, WorldState, is_alive, ascending_with, both, first, second}
+use Rattle.eco_world.proofs.Common.{with_present, or_left, or_right, id_cmp_total, same_id, TableRows, IsByType, listed, listed_of, type_of}
 use Rattle.std.specs.Cmp.{IsTotalOrder, on_total, tied_itself}
-use Rattle.std.specs.Cmp.Lexicographic.{slice_cmp, lists_total}
-use Rattle.std.specs.FinMap.Entries.{by_order}
-use Rattle.std.specs.List.{All, AllByRecursion, IsDistinct, list_all}
-use Rattle.std.specs.List.Sorted.{IsPermutation}
-use Rattle.std.specs.Ordering.{ordering_reverse, ordering_then, eq_by_cmp}
-use Rattle.std.proofs.lemmas.List.{get_or-map, length-map}
-use Rattle.std.proofs.lemmas.List.Elements.{Contains-get_or}
-use Rattle.std.proofs.lemmas.List.Sorted.{Contains-permutation, IsPermutation-map, IsPermutation-sym, ranks_by, sorted_far}
 use Rattle.std.proofs.lemmas.Map.Keys.{IsDistinct-IsPermutation, IsDistinct-head, IsDistinct-tail}
-use Rattle.eco_ids.specs.declared.entity.Entity.{Entity}
-use Rattle.eco_ids.specs.declared.id.Id.{Id}
-use Rattle.eco_ids.specs.Layout.{ListedTable, IsLayout, is_distinct}
-use Rattle.eco_ids.specs.Order.{has_item, id_cmp, is_ascending, with_item}
-use Rattle.eco_ids.specs.World.{WorldState, is_alive}
-use Rattle.eco_ids.proofs.Ascending.{ascending_with, both, first, second, with_present}
-use Rattle.eco_ids.proofs.Facts.{or_left, or_right}
-use Rattle.eco_ids.proofs.IdOrder.{id_cmp_total, same_id}
-use Rattle.eco_world.specs.declared.table_rows.TableRows.{TableRows}
-use Rattle.eco_world.specs.Layouts.{IsByType, listed, listed_of}
-use Rattle.eco_world.specs.Types.{type_of}
 
 -- ---- elements of a list
 

@@ -1,24 +1,9 @@
 -- What listed tables lend are the values that their entities have in the world.
-use Rattle.std.proofs.Common.{◌≡◌, ℕ, suc, true, ◌&&◌, is_some, IsSome, nat_lt, List, [], ◌∷◌, map, slice_get}
-use Rattle.std.proofs.Common.{Option, Some, None, option_map, unwrap_or, refl, sym, ap, ◌∙◌, subst, Contains}
-use Rattle.std.specs.List.{All}
-use Rattle.std.specs.List.Sorted.{IsPermutation}
-use Rattle.std.proofs.lemmas.Option.{get_or_from_slice_get}
-use Rattle.std.proofs.lemmas.List.Elements.{All-contains}
-use Rattle.std.proofs.lemmas.List.Sorted.{Contains-permutation, IsPermutation-sym}
-use Rattle.eco_ids.specs.Data.{arity}
-use Rattle.eco_ids.specs.Lawful.{IsLawful}
-use Rattle.eco_ids.specs.Layout.{ListedTable}
-use Rattle.eco_ids.specs.Order.{has_item, id_cmp}
-use Rattle.eco_ids.specs.World.{WorldState, Record, entities, held_by, record_of}
-use Rattle.eco_ids.specs.declared.id.Id.{Id}
-use Rattle.eco_tables.specs.Column.{value_in}
-use Rattle.eco_tables.specs.Table.{TableState, TableRow, entities_of, width_in}
-use Rattle.eco_tables.specs.Tables.{no_table, table_in}
-use Rattle.eco_store.specs.Lent.{KeepData}
-use Rattle.eco_store.specs.Store.{IsShown, Stands}
-use Rattle.eco_world.specs.declared.table_rows.TableRows.{TableRows}
-use Rattle.eco_world.specs.Layouts.{IsWhole, LendsValues, column_in, lent, lent_at, lent_of}
+use Rattle.eco_world.proofs.Common.{◌≡◌, ℕ, suc, true, ◌&&◌, is_some, IsSome, nat_lt, List, [], ◌∷◌, map, slice_get, Option, Some, None}
+use Rattle.eco_world.proofs.Common.{option_map, unwrap_or, refl, sym, ap, ◌∙◌, subst, Contains, All, IsPermutation, get_or_from_slice_get, All-contains}
+use Rattle.eco_world.proofs.Common.{Contains-permutation, IsPermutation-sym, arity, IsLawful, ListedTable, has_item, id_cmp, WorldState, Record, entities}
+use Rattle.eco_world.proofs.Common.{held_by, record_of, Id, value_in, TableState, TableRow, entities_of, width_in, no_table, table_in, KeepData, IsShown}
+use Rattle.eco_world.proofs.Common.{Stands, TableRows, IsWhole, LendsValues, column_in, lent, lent_at, lent_of}
 use Rattle.eco_world.proofs.Data.{data_lent}
 use Rattle.eco_world.proofs.Layouts.{all_of, mapped_from, mapped_there}
 use Rattle.eco_world.proofs.Tabled.{found_made, made_of}

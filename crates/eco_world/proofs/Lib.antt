@@ -1,3 +1,4 @@
+pub mod Common
 pub mod Asking
 pub mod Cached
 pub mod Changes

@@ -1,34 +1,17 @@
 -- What a call takes away, with mirrors, as what it takes away alone or as losses one after another.
-use Rattle.std.proofs.Common.{arith, ◌≡◌, Bool, true, false, cond, not, ◌||◌, List, [], ◌∷◌, ◌++◌, length, get_or, take, ℕ, ◌+◌, ◌<◌, Option, Some, None}
-use Rattle.std.proofs.Common.{is_some, IsTrue, refl, sym, ap}
-use Rattle.std.proofs.Common.{◌∙◌, subst, true≢false}
-use Rattle.std.proofs.lemmas.List.{take_more}
-use Rattle.std.proofs.lemmas.Option.{none-some, same_Some}
-use Rattle.std.specs.FinMap.Entries.{where_key}
-use Rattle.std.specs.List.{list_any}
-use Rattle.eco_ids.specs.declared.entity.Entity.{Entity}
-use Rattle.eco_ids.specs.declared.id.Id.{Id}
-use Rattle.eco_ids.specs.declared.id.Id.TheVariants as ids
-use Rattle.eco_ids.specs.Edition.{has_symmetric}
-use Rattle.eco_ids.specs.Lawful.{IsLawful}
-use Rattle.eco_ids.specs.Losses.{keeping, nobody, without}
-use Rattle.eco_ids.specs.Mirrors.{at_mirror, goes_too, mirror_of, mirrored_pair}
-use Rattle.eco_ids.specs.Order.{entity_cmp, entity_eq, has_item, id_cmp, id_eq}
-use Rattle.eco_ids.specs.Step.{changed}
-use Rattle.eco_ids.specs.World.{Record, WorldState, has, is_alive, is_symmetric, record_of}
-use Rattle.eco_ids.proofs.Ascending.{both, first, second}
-use Rattle.eco_ids.proofs.Facts.{id_eq_is, id_eq_itself, not_both, or_right}
-use Rattle.eco_ids.proofs.Keeps.{some_of}
-use Rattle.eco_ids.proofs.LossMoves as moves
+use Rattle.eco_world.proofs.Common.{arith, ◌≡◌, Bool, true, false, cond, not, ◌||◌, List, [], ◌∷◌, ◌++◌, length, get_or, take, ℕ, ◌+◌}
+use Rattle.eco_world.proofs.Common.{◌<◌, Option, Some, None, is_some, IsTrue, refl, sym, ap, ◌∙◌, subst, true≢false, take_more, none-some}
+use Rattle.eco_world.proofs.Common.{same_Some, where_key, list_any, Entity, Id, has_symmetric, IsLawful, keeping, nobody, without, at_mirror, goes_too}
+use Rattle.eco_world.proofs.Common.{mirror_of, mirrored_pair, entity_cmp, entity_eq, has_item, id_cmp, id_eq, changed, Record, WorldState, has, is_alive}
+use Rattle.eco_world.proofs.Common.{is_symmetric, record_of, both, first, second, id_eq_is, id_eq_itself, not_both, or_right, some_of, mirror_is, mirror_parts}
+use Rattle.eco_world.proofs.Common.{mirrored_of, entity_eq_is, entity_eq_itself, with_type, IsAlone, mirror_holders, one_by_one, symmetric_target, takes}
+use Rattle.eco_world.proofs.Common.{takes_id, with_holder, type_of}
 use Rattle.eco_ids.proofs.LossMoves.{clear_moves, remove_all_moves, remove_moves, without_alike}
-use Rattle.eco_ids.proofs.Mirrors.{mirror_is, mirror_parts, mirrored_of}
-use Rattle.eco_ids.proofs.Overlaps.{entity_eq_is, entity_eq_itself}
-use Rattle.eco_store.specs.Store.{with_type}
 use Rattle.eco_world.specs.declared.loss.Loss.TheVariants.{All, Everywhere}
-use Rattle.eco_world.specs.Losses.{IsAlone, mirror_holders, one_by_one, symmetric_target, takes, takes_id, with_holder}
-use Rattle.eco_world.specs.Types.{type_of}
 use Rattle.eco_world.proofs.Changes.{changed_alike, held_at}
 use Rattle.eco_world.proofs.Held.{Held, keys}
+use Rattle.eco_ids.specs.declared.id.Id.TheVariants as ids
+use Rattle.eco_ids.proofs.LossMoves as moves
 
 absorbed : (b c : Bool) → (IsTrue b → IsTrue c) → (b || c) ≡ c
 absorbed b c f = grind arith

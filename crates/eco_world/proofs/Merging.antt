@@ -1,14 +1,7 @@
 -- Commands that are done where indices were admitted.
-use Rattle.std.proofs.Common.{◌≡◌, ℕ, List, [], ◌++◌, true, false, true≢false, MatchBool, Ok, is_ok, ap, subst, ◌∙◌}
-use Rattle.eco_ids.specs.Births.{Admits, may_admit}
-use Rattle.eco_ids.specs.Indices.{admitted}
-use Rattle.eco_ids.specs.Outcome.{Answers, Refuses}
-use Rattle.eco_ids.specs.Run.{Command, Runs}
-use Rattle.eco_ids.specs.World.{WorldState, Record, OnEntities, entities, with_entities}
-use Rattle.eco_ids.specs.declared.refusal.Refusal.TheVariants.{NoMoreIds}
-use Rattle.eco_stages.specs.Merging.{AreDone}
-use Rattle.eco_stages.specs.Outcomes.{Written}
-use Rattle.eco_world.specs.Merging.{Merges, RunsAdmitted}
+use Rattle.eco_world.proofs.Common.{◌≡◌, ℕ, List, [], ◌++◌, true, false, true≢false, MatchBool, Ok, is_ok, ap, subst, ◌∙◌, Admits}
+use Rattle.eco_world.proofs.Common.{may_admit, admitted, Answers, Refuses, Command, Runs, WorldState, Record, OnEntities, entities, with_entities, NoMoreIds}
+use Rattle.eco_world.proofs.Common.{AreDone, Written, Merges, RunsAdmitted}
 
 -- their outcomes are the merge's
 pub merged : (w mid new : WorldState) (n : ℕ) (cs : List Command) (before after : Written) → before.outcomes ≡ []

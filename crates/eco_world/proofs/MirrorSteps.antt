@@ -1,24 +1,10 @@
 -- A pair of a symmetric relationship comes to both of its entities, or goes from both, by a step of each.
-use Rattle.std.proofs.Common.{arith, ◌≡◌, Bool, true, false, cond, Option, Some, None, IsTrue, refl, sym, ap, ◌∙◌, subst, true≢false, inl, inr}
-use Rattle.std.proofs.lemmas.Option.{same_Some}
-use Rattle.eco_ids.specs.declared.entity.Entity.{Entity}
-use Rattle.eco_ids.specs.declared.id.Id.{Id}
-use Rattle.eco_ids.specs.declared.id.Id.TheVariants.{Two}
-use Rattle.eco_ids.specs.Lawful.{IsLawful}
-use Rattle.eco_ids.specs.Losses.{keeping, nobody, without}
-use Rattle.eco_ids.specs.Mirrors.{at_mirror, goes_too, mirror_of}
-use Rattle.eco_ids.specs.Order.{entity_eq, id_cmp, id_eq, with_item, without_item}
-use Rattle.eco_ids.specs.Step.{changed, with_mirror}
-use Rattle.eco_ids.specs.World.{Record, WorldState, has, is_alive, names_living, record_of}
-use Rattle.eco_ids.proofs.Ascending.{both, first, second}
-use Rattle.eco_ids.proofs.Facts.{id_eq_is, id_eq_itself, not_both, or_left, or_parts, or_right}
+use Rattle.eco_world.proofs.Common.{arith, ◌≡◌, Bool, true, false, cond, Option, Some, None, IsTrue, refl, sym, ap, ◌∙◌, subst, true≢false, inl}
+use Rattle.eco_world.proofs.Common.{inr, same_Some, Entity, Id, Two, IsLawful, keeping, nobody, without, at_mirror, goes_too, mirror_of, entity_eq, id_cmp}
+use Rattle.eco_world.proofs.Common.{id_eq, with_item, without_item, changed, with_mirror, Record, WorldState, has, is_alive, names_living, record_of, both}
+use Rattle.eco_world.proofs.Common.{first, second, id_eq_is, id_eq_itself, not_both, or_left, or_parts, or_right, mirror_is, mirror_parts, entity_eq_is}
+use Rattle.eco_world.proofs.Common.{entity_eq_itself, changed_apart, record_ids, with_toggled, with_type, takes_id, type_of}
 use Rattle.eco_ids.proofs.Gains.{same_relationship}
-use Rattle.eco_ids.proofs.Mirrors.{mirror_is, mirror_parts}
-use Rattle.eco_ids.proofs.Overlaps.{entity_eq_is, entity_eq_itself}
-use Rattle.eco_ids.proofs.Records.{changed_apart}
-use Rattle.eco_store.specs.Store.{record_ids, with_toggled, with_type}
-use Rattle.eco_world.specs.Losses.{takes_id}
-use Rattle.eco_world.specs.Types.{type_of}
 use Rattle.eco_world.proofs.Changes.{changed_alike, held_at, lists_at, sorted_at}
 use Rattle.eco_world.proofs.Held.{keys, retyped_without}
 use Rattle.eco_world.proofs.Losing.{both_taken, mirrored}

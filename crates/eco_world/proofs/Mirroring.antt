@@ -1,38 +1,13 @@
 -- Mirrors as moves of a store.
-use Rattle.std.proofs.Common.{◌≡◌, Bool, true, false, cond, not, ◌⊎◌, inl, inr, T, List, [], ◌∷◌, map, filter, fold, Option, Some, None, unwrap_or, is_some}
-use Rattle.std.proofs.Common.{IsTrue}
-use Rattle.std.proofs.Common.{IsFalse, refl, sym, ap, ◌∙◌, subst, true≢false, MatchOption}
-use Rattle.std.proofs.lemmas.Bool.{false_from_ne_true}
-use Rattle.std.proofs.lemmas.Option.{same_Some, none-some}
-use Rattle.std.specs.FinMap.Entries.{find, put, where_key, is_sorted, is_sorted-where_key, find-where_key}
-use Rattle.std.specs.Option.{option_or}
-use Rattle.eco_ids.specs.declared.edition.Edition.{Edition}
-use Rattle.eco_ids.specs.declared.entity.Entity.{Entity}
-use Rattle.eco_ids.specs.declared.id.Id.{Id}
-use Rattle.eco_ids.specs.declared.id.Id.TheVariants.{Two}
-use Rattle.eco_ids.specs.declared.value.Value.{Value}
-use Rattle.eco_ids.specs.Indices.{Indexed, change_kept}
-use Rattle.eco_ids.specs.Lawful.{IsLawful}
-use Rattle.eco_ids.specs.Losses.{keeping, nobody, without}
-use Rattle.eco_ids.specs.Mirrors.{mirror_of}
-use Rattle.eco_ids.specs.Order.{entity_eq, has_item, id_cmp, id_eq, with_item}
-use Rattle.eco_ids.specs.Step.{changed, with_id, with_mirror, with_zeros}
-use Rattle.eco_ids.specs.World.{Record, WorldState, entities, record_of, with_entities, zeros}
-use Rattle.eco_ids.proofs.Closures.{zero_sorted}
-use Rattle.eco_ids.proofs.Exact.{keys_find, keys_kept, keys_zeros, zero_find}
-use Rattle.eco_ids.proofs.Facts.{not_both, same_or_apart}
-use Rattle.eco_ids.proofs.Losses.{keeps_all}
-use Rattle.eco_ids.proofs.Mirrors.{mirror_parts}
-use Rattle.eco_ids.proofs.Overlaps.{entity_eq_itself}
-use Rattle.eco_ids.proofs.Records.{changed_apart, write_change}
+use Rattle.eco_world.proofs.Common.{◌≡◌, Bool, true, false, cond, not, ◌⊎◌, inl, inr, T, List, [], ◌∷◌, map, filter, fold, Option, Some, None}
+use Rattle.eco_world.proofs.Common.{unwrap_or, is_some, IsTrue, IsFalse, refl, sym, ap, ◌∙◌, subst, true≢false, MatchOption, false_from_ne_true}
+use Rattle.eco_world.proofs.Common.{same_Some, none-some, find, put, where_key, is_sorted, is_sorted-where_key, find-where_key, option_or, Edition, Entity, Id}
+use Rattle.eco_world.proofs.Common.{Two, Value, Indexed, change_kept, IsLawful, keeping, nobody, without, mirror_of, entity_eq, has_item, id_cmp, id_eq}
+use Rattle.eco_world.proofs.Common.{with_item, changed, with_id, with_mirror, with_zeros, Record, WorldState, entities, record_of, with_entities, zeros}
+use Rattle.eco_world.proofs.Common.{zero_sorted, keys_find, keys_kept, keys_zeros, zero_find, not_both, same_or_apart, keeps_all, mirror_parts}
+use Rattle.eco_world.proofs.Common.{entity_eq_itself, changed_apart, write_change, with_type, retyped, IsAlone, one_by_one, QueryTerm, type_of, world_with}
 use Rattle.eco_store.specs.declared.moving.Move.{Move}
 use Rattle.eco_store.specs.Moving.{after_move, after_moves}
-use Rattle.eco_store.specs.Store.{with_type}
-use Rattle.eco_tables.specs.Column.{retyped}
-use Rattle.eco_world.specs.Losses.{IsAlone, one_by_one}
-use Rattle.eco_ids.specs.Terms.{QueryTerm}
-use Rattle.eco_world.specs.Types.{type_of}
-use Rattle.eco_world.specs.Worlds.{world_with}
 use Rattle.eco_world.proofs.Changes.{changed_alike, changed_same, held_at, sorted_at}
 use Rattle.eco_world.proofs.Held.{Held, alike, keys, kept_find, retyped_is}
 

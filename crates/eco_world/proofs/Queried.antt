@@ -1,24 +1,7 @@
 -- What holds of the world of a store holds whatever queries were added to it.
-use Rattle.std.proofs.Common.{true, List, [], IsTrue, Result, Ok, Err, ap}
-use Rattle.eco_ids.specs.declared.entity.Entity.{Entity}
-use Rattle.eco_ids.specs.declared.entity.TheConstants.{DELETE, PANIC}
-use Rattle.eco_ids.specs.declared.id.Id.{Id}
-use Rattle.eco_ids.specs.declared.id.Id.TheVariants.{One, Two}
-use Rattle.eco_ids.specs.declared.refusal.Refusal.{Refusal}
-use Rattle.eco_ids.specs.declared.value.Value.{Value}
-use Rattle.eco_ids.specs.Cleanup.{Doomed, Ends, Forbids, ForbidsFirst, HoldsOn, IsDoomed, Names}
-use Rattle.eco_ids.specs.Data.{fits}
-use Rattle.eco_ids.specs.Indices.{Indexed}
-use Rattle.eco_ids.specs.Lawful.{IsLawful, IsLawfulRecord, KeepsEdition}
-use Rattle.eco_ids.specs.Least.{Least, root, next}
-use Rattle.eco_ids.specs.Outcome.{Meets}
-use Rattle.eco_ids.specs.Terms.{QueryTerm}
-use Rattle.eco_ids.specs.declared.edition.Edition.{Edition}
-use Rattle.eco_ids.specs.declared.edition.Edition.TheVariants.{First, Second}
-use Rattle.eco_ids.specs.World.{Record, WorldState, names_living}
-use Rattle.eco_ids.proofs.Meaning.{least}
-use Rattle.eco_store.specs.Worlds.{world_of}
-use Rattle.eco_world.specs.Worlds.{world_with}
+use Rattle.eco_world.proofs.Common.{true, List, [], IsTrue, Result, Ok, Err, ap, Entity, DELETE, PANIC, Id, One, Two, Refusal, Value, Doomed, Ends, Forbids}
+use Rattle.eco_world.proofs.Common.{ForbidsFirst, HoldsOn, IsDoomed, Names, fits, Indexed, IsLawful, IsLawfulRecord, KeepsEdition, Least, root, next, Meets}
+use Rattle.eco_world.proofs.Common.{QueryTerm, Edition, First, Second, Record, WorldState, names_living, least, world_of, world_with}
 use Rattle.eco_world.proofs.Steps.{meets_as}
 
 -- the same world with these queries, of an edition

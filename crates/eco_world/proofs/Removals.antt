@@ -1,38 +1,16 @@
 -- An id goes from every entity that has it.
-use Rattle.std.proofs.Common.{◌≡◌, ℕ, suc, ◌+◌, ◌-◌, ◌<◌, Bool, false, ◌||◌, List, [], ◌∷◌, map, length, get_or, slice_get, Option, None, Some}
-use Rattle.std.proofs.Common.{option_map, is_some, Ok, IsTrue, ◌↔◌, refl, sym, ap, ◌∙◌, subst, arith}
-use Rattle.std.specs.List.{All, Contains, list_any, range_with_len}
-use Rattle.std.specs.FinMap.Entries.{find}
-use Rattle.std.proofs.lemmas.List.{get_or-map, length-map}
-use Rattle.std.proofs.lemmas.Bool.{false_from_ne_true}
-use Rattle.std.proofs.lemmas.Option.{none-some, same_Some}
-use Rattle.eco_ids.specs.declared.edition.Edition.{Edition}
-use Rattle.eco_ids.specs.declared.entity.Entity.{Entity}
-use Rattle.eco_ids.specs.declared.id.Id.{Id}
-use Rattle.eco_ids.specs.Builtin.{is_builtins}
-use Rattle.eco_ids.specs.Indices.{Indexed, IndexState, Retired, Free, Living, map_state, record_of}
-use Rattle.eco_ids.specs.Lawful.{IsLawful}
+use Rattle.eco_world.proofs.Common.{◌≡◌, ℕ, suc, ◌+◌, ◌-◌, ◌<◌, Bool, false, ◌||◌, List, [], ◌∷◌, map, length, get_or, slice_get}
+use Rattle.eco_world.proofs.Common.{Option, None, Some, option_map, is_some, Ok, IsTrue, ◌↔◌, refl, sym, ap, ◌∙◌, subst, arith, All, list_any}
+use Rattle.eco_world.proofs.Common.{range_with_len, find, get_or-map, length-map, false_from_ne_true, none-some, same_Some, Edition, Entity, Id, is_builtins}
+use Rattle.eco_world.proofs.Common.{Indexed, IndexState, Retired, Free, Living, map_state, IsLawful, keeping, without, nobody, goes_too, pattern_matches}
+use Rattle.eco_world.proofs.Common.{entity_cmp, has_item, id_cmp, id_eq, is_ascending, without_item, RemovesAll, Record, WorldState, entities, has, id_eq_sym}
+use Rattle.eco_world.proofs.Common.{keys_ascending, id_eq_is, not_both, has_in, keeps_all, without_from_all, record_at, exactly, record_ids, TypeChange}
+use Rattle.eco_world.proofs.Common.{QueryTerm, world_of, symmetric_target, world_with}
+use Rattle.std.specs.List.{Contains}
+use Rattle.eco_ids.specs.Indices.{record_of}
 use Rattle.eco_ids.specs.Laws.{Keeps}
-use Rattle.eco_ids.specs.Losses.{keeping, without, nobody}
-use Rattle.eco_ids.specs.Mirrors.{goes_too}
-use Rattle.eco_ids.specs.Matching.{pattern_matches}
-use Rattle.eco_ids.specs.Order.{entity_cmp, has_item, id_cmp, id_eq, is_ascending, without_item}
-use Rattle.eco_ids.specs.Step.{RemovesAll}
-use Rattle.eco_ids.specs.World.{Record, WorldState, entities, has}
-use Rattle.eco_ids.proofs.Exact.{id_eq_sym, keys_ascending}
-use Rattle.eco_ids.proofs.Facts.{id_eq_is, not_both}
-use Rattle.eco_ids.proofs.Keeps.{has_in}
-use Rattle.eco_ids.proofs.Losses.{keeps_all, without_from_all}
-use Rattle.eco_ids.proofs.States.{record_at}
-use Rattle.eco_query.specs.Queries.{exactly}
 use Rattle.eco_store.specs.Retyping.{IsTypeWith}
-use Rattle.eco_store.specs.Store.{record_ids}
-use Rattle.eco_store.specs.declared.type_change.TypeChange.{TypeChange}
 use Rattle.eco_cleanup.specs.Plans.{TakesOutOfAll}
-use Rattle.eco_ids.specs.Terms.{QueryTerm}
-use Rattle.eco_store.specs.Worlds.{world_of}
-use Rattle.eco_world.specs.Losses.{symmetric_target}
-use Rattle.eco_world.specs.Worlds.{world_with}
 use Rattle.eco_world.proofs.Holders.{matches_exactly}
 use Rattle.eco_world.proofs.Changes.{sorted_at}
 use Rattle.eco_world.proofs.Losing.{plainly_taken}

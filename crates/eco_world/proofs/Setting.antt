@@ -1,22 +1,9 @@
 -- Ids that values may stand at, and what a write leaves of that.
-use Rattle.std.proofs.Common.{◌≡◌, ℕ, ◌&&◌, ◌∷◌, [], not, Option, None, Some, IfSome, is_some, option_and_then, true, false}
-use Rattle.std.proofs.Common.{refl, ◌∙◌, if◌then◌else◌}
-use Rattle.std.specs.Option.{option_or}
-use Rattle.eco_ids.specs.declared.entity.Entity.{Entity}
-use Rattle.eco_ids.specs.declared.id.Id.{Id}
-use Rattle.eco_ids.specs.declared.id.Id.TheVariants.{One, Two}
-use Rattle.eco_ids.specs.declared.refusal.Refusal.{Refusal}
-use Rattle.eco_ids.specs.declared.refusal.Refusal.TheVariants.{NotAlive, Reserved, DeadId, NotData, TooWide}
-use Rattle.eco_ids.specs.declared.value.Value.{Value}
-use Rattle.eco_ids.specs.Builtin.{is_builtin}
-use Rattle.eco_ids.specs.Data.{arity, arity_of, fits}
-use Rattle.eco_ids.specs.Outcome.{first_refusal}
-use Rattle.eco_ids.specs.Step.{changed, is_reserved, with_value}
-use Rattle.eco_ids.specs.World.{WorldState, Record, is_alive, names_living}
-use Rattle.eco_ids.proofs.Records.{changed_each}
-use Rattle.eco_world.specs.Actor.{MayNotSet}
+use Rattle.eco_world.proofs.Common.{◌≡◌, ℕ, ◌&&◌, ◌∷◌, [], not, Option, None, Some, IfSome, is_some, option_and_then, true, false, refl}
+use Rattle.eco_world.proofs.Common.{◌∙◌, if◌then◌else◌, option_or, Entity, Id, One, Two, Refusal, NotAlive, Reserved, DeadId, NotData, TooWide}
+use Rattle.eco_world.proofs.Common.{Value, is_builtin, arity, arity_of, fits, first_refusal, changed, is_reserved, with_value, WorldState, Record, is_alive}
+use Rattle.eco_world.proofs.Common.{names_living, changed_each, MayNotSet, IsSettable, IsUnsettable}
 use Rattle.eco_world.specs.declared.settable.Settable.{Settable}
-use Rattle.eco_world.specs.Setting.{IsSettable, IsUnsettable}
 
 module _ (w : WorldState) (e : Entity) (i : Id) (v : Value) where
   alive_alike : (x : Entity) → is_alive (changed w e (with_value i v)) x ≡ is_alive w x

@@ -1,21 +1,10 @@
 -- The built-ins are made one by one, and nothing but memory stands against that.
-use Rattle.std.proofs.Common.{◌≡◌, ℕ, zero, suc, ◌+◌, ◌<◌, Bool, cond, List, [], ◌∷◌, ◌++◌, length, take, Option, Some, None, Ok, Err, Result}
-use Rattle.std.proofs.Common.{MatchOption, nat_lt, refl, sym, ap, ◌∙◌, subst, arith, lt-ltb, le-ltb, add-one}
-use Rattle.std.specs.Option.{option_or}
-use Rattle.eco_ids.specs.declared.entity.Entity.{Entity}
-use Rattle.eco_ids.specs.declared.id.Id.{Id}
-use Rattle.eco_ids.specs.declared.refusal.Refusal.{Refusal}
-use Rattle.eco_ids.specs.declared.refusal.Refusal.TheVariants.{OutOfMemory, NoMoreIds}
-use Rattle.eco_ids.specs.Births.{Makes, unfit_name}
-use Rattle.eco_ids.specs.Indices.{Indexed, IndexState, Living, with_record, lowest_free, next_entity, with_new}
-use Rattle.eco_ids.specs.Outcome.{Meets, Answers, Refuses}
-use Rattle.eco_ids.specs.World.{Record, builtin_states, world_of_edition}
-use Rattle.eco_ids.specs.Edition.{builtin_count}
-use Rattle.eco_ids.specs.declared.edition.Edition.{Edition}
-use Rattle.eco_ids.specs.declared.edition.Edition.TheVariants.{First, Second}
-use Rattle.eco_world.specs.Worlds.{world_with}
-use Rattle.eco_world.specs.Builtins.{first_entities, builtin_name, builtin_type}
-use Rattle.eco_store.specs.Store.{record_name, newborn}
+use Rattle.eco_world.proofs.Common.{◌≡◌, ℕ, zero, suc, ◌+◌, ◌<◌, Bool, cond, List, [], ◌∷◌, ◌++◌, length, take, Option, Some, None}
+use Rattle.eco_world.proofs.Common.{Ok, Err, Result, MatchOption, nat_lt, refl, sym, ap, ◌∙◌, subst, arith, lt-ltb, le-ltb, add-one, option_or, Entity}
+use Rattle.eco_world.proofs.Common.{Id, Refusal, OutOfMemory, NoMoreIds, Makes, unfit_name, Indexed, IndexState, Living, lowest_free, next_entity, with_new}
+use Rattle.eco_world.proofs.Common.{Meets, Answers, Refuses, Record, builtin_states, world_of_edition, builtin_count, Edition, First, Second, world_with}
+use Rattle.eco_world.proofs.Common.{first_entities, builtin_name, builtin_type, record_name, newborn}
+use Rattle.eco_ids.specs.Indices.{with_record}
 
 -- the states of the first built-ins
 abbrev builtins_below : ℕ → List (IndexState Record)

@@ -1,21 +1,11 @@
 -- A call of the store, seen as a step of the world.
-use Rattle.std.proofs.Common.{◌≡◌, ℕ, Bool, true, false, not, ◌&&◌, List, [], ◌∷◌, Option, Result, Err, MatchOption, MatchBool, IsTrue, refl, sym, ap, subst}
-use Rattle.eco_ids.specs.declared.edition.Edition.{Edition}
-use Rattle.eco_ids.specs.declared.entity.Entity.{Entity}
-use Rattle.eco_ids.specs.declared.refusal.Refusal.{Refusal}
-use Rattle.eco_ids.specs.declared.refusal.Refusal.TheVariants.{NotAlive, Reserved, BadName, NameTaken}
-use Rattle.eco_ids.specs.Builtin.{is_builtin}
-use Rattle.eco_ids.specs.Indices as indexed
-use Rattle.eco_ids.specs.Indices.{Indexed}
-use Rattle.eco_ids.specs.Lawful.{IsLawful}
+use Rattle.eco_world.proofs.Common.{◌≡◌, ℕ, Bool, true, false, not, ◌&&◌, List, [], ◌∷◌, Option, Result, Err, MatchOption, MatchBool, IsTrue}
+use Rattle.eco_world.proofs.Common.{refl, sym, ap, subst, Edition, Entity, Refusal, NotAlive, Reserved, BadName, NameTaken, is_builtin, Indexed, IsLawful}
+use Rattle.eco_world.proofs.Common.{Meets, Answers, Refuses, first_refusal, is_out_of_memory, Renames, may_rename, own_name, with_name, WorldState, Record}
+use Rattle.eco_world.proofs.Common.{entities, OnEntities, is_alive, IsUnfit, QueryTerm, world_with}
 use Rattle.eco_ids.specs.Names.{is_proper, is_same_name, is_taken}
-use Rattle.eco_ids.specs.Outcome.{Meets, Answers, Refuses, first_refusal, is_out_of_memory}
-use Rattle.eco_ids.specs.Step.{Renames, may_rename, own_name, with_name}
-use Rattle.eco_ids.specs.World.{WorldState, Record, entities, OnEntities, is_alive}
 use Rattle.eco_ids.proofs.Admits.{meets_lawful}
-use Rattle.eco_world.specs.Actor.{IsUnfit}
-use Rattle.eco_ids.specs.Terms.{QueryTerm}
-use Rattle.eco_world.specs.Worlds.{world_with}
+use Rattle.eco_ids.specs.Indices as indexed
 
 -- a call that meets a step meets one that follows from it, of the same state or of what is made of it
 pub meets_as : {A S T : Type 0} (Step : Result A Refusal → S → Type 0) (Other : Result A Refusal → T → Type 0) (may other : Bool) (old new : S) (was now : T)

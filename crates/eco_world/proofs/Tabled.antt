@@ -1,30 +1,14 @@
 -- The tables of a store are those of the world that it makes.
-use Rattle.std.proofs.Common.{◌≡◌, ◌≢◌, ℕ, zero, suc, ◌<◌, Bool, true, false, cond, not, nat_eq, nat_lt, List, [], ◌∷◌, map, length, slice_get, Option, Some}
-use Rattle.std.proofs.Common.{None, option_map, unwrap_or, is_some, is_eq, refl, sym, ap, ◌∙◌, subst, arith, IsTrue, true≢false, inl, inr, Contains}
-use Rattle.std.specs.List.{All, AllByRecursion, IsDistinct, list_any}
-use Rattle.std.proofs.lemmas.Bool.{false_from_ne_true}
-use Rattle.std.proofs.lemmas.Bool.Decides.{nat_tests, Decides-eqb}
+use Rattle.eco_world.proofs.Common.{◌≡◌, ◌≢◌, ℕ, zero, suc, ◌<◌, Bool, true, false, cond, not, nat_eq, nat_lt, List, [], ◌∷◌, map}
+use Rattle.eco_world.proofs.Common.{length, slice_get, Option, Some, None, option_map, unwrap_or, is_some, is_eq, refl, sym, ap, ◌∙◌, subst, arith}
+use Rattle.eco_world.proofs.Common.{IsTrue, true≢false, inl, inr, Contains, All, AllByRecursion, list_any, false_from_ne_true, nat_tests, Decides-eqb}
+use Rattle.eco_world.proofs.Common.{get_or_from_slice_get, none-some, same_Some, slice_get-get_or, slice_get_within, WorldState, entities, is_alive, living}
+use Rattle.eco_world.proofs.Common.{record_of, Entity, Id, ListedTable, is_distinct, entity_cmp, has_item, TableState, TableRow, HasIds, entities_of, no_row}
+use Rattle.eco_world.proofs.Common.{no_table, slot_of, table_in, IsShown, Stands, both, first, second, or_left, or_parts, or_right, some_of, entity_eq_is}
+use Rattle.eco_world.proofs.Common.{Record, type_of_record, passes_some, is_passed, HasTable, shown_at, shown_of, type_of}
+use Rattle.std.specs.List.{IsDistinct}
 use Rattle.std.proofs.lemmas.Map.Views.{Contains-from_any}
-use Rattle.std.proofs.lemmas.Option.{get_or_from_slice_get, none-some, same_Some, slice_get-get_or, slice_get_within}
-use Rattle.eco_ids.specs.World.{WorldState, entities, is_alive, living, record_of}
-use Rattle.eco_ids.specs.declared.entity.Entity.{Entity}
-use Rattle.eco_ids.specs.declared.id.Id.{Id}
-use Rattle.eco_ids.specs.Layout.{ListedTable, is_distinct}
-use Rattle.eco_ids.specs.Order.{entity_cmp, has_item}
-use Rattle.eco_tables.specs.Table.{TableState, TableRow, HasIds, entities_of}
-use Rattle.eco_tables.specs.Tables.{no_row, no_table, slot_of, table_in}
 use Rattle.eco_archetypes.specs.Archetypes.{is_found_by, type_at, row_at}
-use Rattle.eco_store.specs.Store.{IsShown, Stands}
-use Rattle.eco_ids.proofs.Ascending.{both, first, second}
-use Rattle.eco_ids.proofs.Facts.{or_left, or_parts, or_right}
-use Rattle.eco_ids.proofs.Keeps.{some_of}
-use Rattle.eco_ids.proofs.Overlaps.{entity_eq_is}
-use Rattle.eco_ids.specs.World.{Record}
-use Rattle.eco_traits.specs.Target.{type_of_record}
-use Rattle.eco_ids.proofs.Passing.{passes_some}
-use Rattle.eco_world.specs.Queries.{is_passed}
-use Rattle.eco_world.specs.Layouts.{HasTable, shown_at, shown_of}
-use Rattle.eco_world.specs.Types.{type_of}
 use Rattle.eco_world.proofs.Layouts.{Covers, IsTable, all_of, element_cases, here, mapped_from, mapped_there, no_element, same_ids, same_type, there}
 
 itself : (n : ℕ) → nat_eq n n ≡ true

@@ -1,11 +1,7 @@
 -- What the first difference of two types decides.
-use Rattle.std.proofs.Common.{◌≡◌, ℕ, ◌+◌, ◌<◌, suc, zero, Bool, nat_lt, List, [], ◌∷◌, length, get_or, min, Some, None}
-use Rattle.std.proofs.Common.{refl, ap, ◌∙◌, arith, is_lt, Ordering, le_of_suc-le-suc}
+use Rattle.eco_world.proofs.Common.{◌≡◌, ℕ, ◌+◌, ◌<◌, suc, zero, Bool, nat_lt, List, [], ◌∷◌, length, get_or, min, Some, None, refl, ap}
+use Rattle.eco_world.proofs.Common.{◌∙◌, arith, is_lt, Ordering, le_of_suc-le-suc, slice_cmp, nat_cmp, ordering_then, Rest, begun, ended, decided}
 use Rattle.std.proofs.Math.ListN.{drop}
-use Rattle.std.specs.Cmp.Lexicographic.{slice_cmp}
-use Rattle.std.specs.Ordering.{nat_cmp, ordering_then}
-use Rattle.std.proofs.cmp.SliceLoops.{Rest, begun, ended}
-use Rattle.eco_world.specs.Layouts.{decided}
 
 settles : (o rest : Ordering) (b : Bool) → Some b ≡ decided o → b ≡ is_lt (ordering_then o rest)
 settles o rest b h = grind arith

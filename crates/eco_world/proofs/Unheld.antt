@@ -1,34 +1,13 @@
 -- An entity that no id names dies alone.
-use Rattle.std.proofs.Common.{◌≡◌, ℕ, ◌+◌, Bool, true, false, true≢false, cond, ◌||◌, ◌⊎◌, List, [], ◌∷◌, map, slice_get, slice_set, Option}
-use Rattle.std.proofs.Common.{Some, None, option_map, is_some}
-use Rattle.std.proofs.Common.{IsTrue, Ok, refl, sym, ap, ◌∙◌, subst, inl, inr, arith}
-use Rattle.std.proofs.lemmas.Bool.{false_from_ne_true}
-use Rattle.std.specs.List.{list_any}
-use Rattle.eco_ids.specs.declared.edition.Edition.{Edition}
-use Rattle.eco_ids.specs.declared.entity.Entity.{Entity}
-use Rattle.eco_ids.specs.declared.entity.TheConstants.{DELETE, PANIC}
-use Rattle.eco_ids.specs.declared.id.Id.{Id}
-use Rattle.eco_ids.specs.declared.id.Id.TheVariants.{One, Two}
-use Rattle.eco_ids.specs.Builtin.{is_builtin}
-use Rattle.eco_ids.specs.Cleanup.{after_delete, Forbids, HoldsOn, IsDoomed, Names, names_any}
-use Rattle.eco_ids.specs.Delete.{DeletesOne}
-use Rattle.eco_ids.specs.Indices.{Indexed, IndexState, Retired, Free, Living, map_from, raised, with_death}
-use Rattle.eco_ids.specs.Least.{root}
-use Rattle.eco_ids.specs.Losses.{keeping, left_at}
-use Rattle.eco_ids.specs.Order.{entity_cmp, entity_eq, has_item, id_eq, names_entity}
-use Rattle.eco_ids.specs.World.{Record, WorldState, entities, has, is_alive, living, record_of, with_entities}
+use Rattle.eco_world.proofs.Common.{◌≡◌, ℕ, ◌+◌, Bool, true, false, true≢false, cond, ◌||◌, ◌⊎◌, List, [], ◌∷◌, map, slice_get}
+use Rattle.eco_world.proofs.Common.{slice_set, Option, Some, None, option_map, is_some, IsTrue, Ok, refl, sym, ap, ◌∙◌, subst, inl, inr, arith}
+use Rattle.eco_world.proofs.Common.{false_from_ne_true, list_any, Edition, Entity, DELETE, PANIC, Id, One, Two, is_builtin, after_delete, Forbids, HoldsOn}
+use Rattle.eco_world.proofs.Common.{IsDoomed, Names, names_any, DeletesOne, Indexed, IndexState, Retired, Free, Living, map_from, raised, with_death, root}
+use Rattle.eco_world.proofs.Common.{keeping, left_at, entity_cmp, entity_eq, has_item, id_eq, names_entity, Record, WorldState, entities, has, is_alive, living}
+use Rattle.eco_world.proofs.Common.{record_of, with_entities, keys_find, any_is, id_eq_is, or_left, or_parts, or_right, entry_of, has_in, some_of, keeps_all}
+use Rattle.eco_world.proofs.Common.{least, entity_eq_itself, passes_some, living_at, record_at, QueryTerm, world_with}
 use Rattle.eco_ids.proofs.AtPlaces.{get_left, same_number, same_places}
-use Rattle.eco_ids.proofs.Exact.{keys_find}
-use Rattle.eco_ids.proofs.Facts.{any_is, id_eq_is, or_left, or_parts, or_right}
-use Rattle.eco_ids.proofs.Keeps.{entry_of, has_in, some_of}
 use Rattle.eco_ids.proofs.Lists.{slice_get-set_other, slice_get-set_there}
-use Rattle.eco_ids.proofs.Losses.{keeps_all}
-use Rattle.eco_ids.proofs.Meaning.{least}
-use Rattle.eco_ids.proofs.Overlaps.{entity_eq_itself}
-use Rattle.eco_ids.proofs.Passing.{passes_some}
-use Rattle.eco_ids.proofs.States.{living_at, record_at}
-use Rattle.eco_ids.specs.Terms.{QueryTerm}
-use Rattle.eco_world.specs.Worlds.{world_with}
 use Rattle.eco_world.proofs.Deleting.{only}
 
 -- an id of the record names the entity

@@ -1,10 +1,8 @@
 -- A walk over all known indices, from the first to the last.
-use Rattle.std.proofs.Common.{◌≡◌, ℕ, ◌+◌, ◌<◌, cond, List, [], ◌∷◌, ◌++◌, length, drop, flat_map, get_or, Some, None, slice_get, refl, sym, ap, ◌∙◌, subst}
-use Rattle.std.proofs.Common.{eq-eqb}
-use Rattle.std.proofs.lemmas.List.{drop_more}
-use Rattle.std.proofs.lemmas.Option.{none-some, same_Some, slice_get-get_or}
-use Rattle.eco_ids.specs.declared.entity.Entity.{Entity}
-use Rattle.eco_ids.specs.Indices.{IndexState, Indexed, Retired, Free, Living, record_in, record_of, living_from}
+use Rattle.eco_world.proofs.Common.{◌≡◌, ℕ, ◌+◌, ◌<◌, cond, List, [], ◌∷◌, ◌++◌, length, drop, flat_map, get_or, Some, None}
+use Rattle.eco_world.proofs.Common.{slice_get, refl, sym, ap, ◌∙◌, subst, eq-eqb, drop_more, none-some, same_Some, slice_get-get_or, Entity, IndexState}
+use Rattle.eco_world.proofs.Common.{Indexed, Retired, Free, Living, record_in, living_from}
+use Rattle.eco_ids.specs.Indices.{record_of}
 use Rattle.eco_entities.specs.Registration.{entity_at, entity_in}
 
 module _ {A X : Type 0} (f : Entity × A → List X) where

@@ -1,5 +1,6 @@
 //! The table whose type has one id in the place of another.
-ghost use Rattle.std.specs.Prelude.{◌≡◌, ◌≢◌, ◌<◌, ◌+◌, drop, length, slice_get, take, Some, IsSome, IsTrue, true, false, IfOk, IfSome, OnOk};
+ghost use Rattle.std.specs.Prelude.{◌≡◌, ◌≢◌, ◌<◌, ◌+◌, drop, length, slice_get, take, Some, IsSome, IsTrue, true};
+ghost use Rattle.std.specs.Prelude.{false, IfOk, IfSome, OnOk};
 ghost use Rattle.eco_ids.specs.Order.{id_cmp, has_item};
 ghost use Rattle.eco_tables.specs.Tables.{slot_of, table_in};
 ghost use Rattle.eco_index.specs.Edges.{exchanged};

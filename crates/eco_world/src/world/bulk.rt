@@ -15,8 +15,9 @@ use std::alloc::AllocError;
 
 impl World {
     /// No living entity has the id any more (Flecs manual, Entities and Components). An id that nobody has is done,
-    /// and wants no memory. With a pair of a symmetric relationship its mirrors go. All memory that it wants is taken first, so that the id goes from all entities or from
-    /// none. Its time grows with the entities that have the id, and with the tables whose types name the id's entity.
+    /// and wants no memory. With a pair of a symmetric relationship its mirrors go. All memory that it wants is taken first,
+    /// so that the id goes from all entities or from none. Its time grows with the entities that have the id, and with the
+    /// tables whose types name the id's entity.
     ///
     /// Refused with `Reserved` where a built-in has the id, and last with `OutOfMemory`.
     pub fn remove_all(&mut self, id: Id) -> Result<(), Refusal>

@@ -1,5 +1,6 @@
 //! The calls that change a world.
-ghost use Rattle.std.specs.Prelude.{◌≡◌, ◌≤◌, ◌||◌, ◌∷◌, [], false, pos, IfErr, IfOk, IsOk, IsTrue, map, nat_le, option_map, Some, MatchBool, Ok, OnErr, OnOk, true};
+ghost use Rattle.std.specs.Prelude.{◌≡◌, ◌≤◌, ◌||◌, ◌∷◌, [], false, pos, IfErr, IfOk, IsOk, IsTrue, map, nat_le};
+ghost use Rattle.std.specs.Prelude.{option_map, Some, MatchBool, Ok, OnErr, OnOk, true};
 ghost use Rattle.std.specs.List.{list_all};
 ghost use Rattle.std.specs.Option.{option_copied};
 ghost use Rattle.std.specs.Ordering.{int_eq};
@@ -13,7 +14,8 @@ ghost use Rattle.eco_ids.specs.Lawful.{IsLawful};
 ghost use Rattle.eco_ids.specs.Losses.{nobody, without};
 ghost use Rattle.eco_ids.specs.Mirrors.{goes_too};
 ghost use Rattle.eco_ids.specs.Outcome.{Meets};
-ghost use Rattle.eco_ids.specs.Step.{Adds, may_add, Clears, may_clear, Extends, Removes, may_remove, Renames, may_rename, Sets, may_set, changed, is_reserved, unchanged, with_value};
+ghost use Rattle.eco_ids.specs.Step.{Adds, may_add, Clears, may_clear, Extends, Removes, may_remove, Renames};
+ghost use Rattle.eco_ids.specs.Step.{may_rename, Sets, may_set, changed, is_reserved, unchanged, with_value};
 ghost use Rattle.eco_ids.specs.World.{has, names_living, is_alive, record_of};
 ghost use Rattle.eco_world.specs.Actor.{IsUnfit, MaySet};
 ghost use Rattle.eco_world.specs.Losses.{takes_id};

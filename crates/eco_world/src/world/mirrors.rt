@@ -1,5 +1,6 @@
 //! Mirrors: each pair of a symmetric relationship stands on both of its entities.
-ghost use Rattle.std.specs.Prelude.{◌≡◌, ◌∷◌, ◌++◌, [], false, filter, IfOk, IsFalse, IsTrue, is_some, map, MatchOption, not, OnErr, OnOk, Some, true, unwrap_or};
+ghost use Rattle.std.specs.Prelude.{◌≡◌, ◌∷◌, ◌++◌, [], false, filter, IfOk, IsFalse, IsTrue, is_some, map};
+ghost use Rattle.std.specs.Prelude.{MatchOption, not, OnErr, OnOk, Some, true, unwrap_or};
 ghost use Rattle.std.specs.List.{list_any};
 ghost use Rattle.std.specs.Option.{option_copied};
 ghost use Rattle.eco_ids.specs.Lawful.{IsLawful};

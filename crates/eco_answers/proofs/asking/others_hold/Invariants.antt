@@ -1,6 +1,4 @@
-use Rattle.std.proofs.Common.{◌≡◌, ◌≤◌, drop}
-use Rattle.eco_answers.specs.Answers.{asks}
-use Rattle.eco_answers.specs.Groups.{others_hold}
+use Rattle.eco_answers.proofs.Common.{◌≡◌, ◌≤◌, drop, asks, others_hold}
 use Rattle.eco_answers.proofs.asking.others_hold.Given as goal
 
 abbrev pub invariant-loop-slot : goal.invariant-loop-slot

@@ -1,8 +1,6 @@
-use Rattle.std.proofs.Common.{rules}
+use Rattle.eco_answers.proofs.Common.{rules, Slot, is_positive, term_view}
 use Rattle.std.proofs.lemmas.Iterator.{YieldsList-from_slice}
 use Rattle.std.proofs.lemmas.Iterator.Consumers.{YieldsList-from_filter, nth_from_yields_List}
-use Rattle.eco_query.specs.declared.slot.Slot.{Slot}
-use Rattle.eco_query.specs.Queries.{is_positive, term_view}
 use Rattle.eco_answers.proofs.asking.positive_at.Goals as goal
 
 pub returns : goal.returns

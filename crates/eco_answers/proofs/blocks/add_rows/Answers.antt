@@ -1,5 +1,4 @@
-use Rattle.std.proofs.Common.{◌≡◌, ◌++◌, ◌-◌, sym, ap, ◌∙◌, arith, append-nil}
-use Rattle.eco_answers.specs.Blocks.{standings_from}
+use Rattle.eco_answers.proofs.Common.{◌≡◌, ◌++◌, ◌-◌, sym, ap, ◌∙◌, arith, append-nil, standings_from}
 use Rattle.eco_answers.proofs.Blocked.{rows_step}
 use Rattle.eco_answers.proofs.blocks.add_rows.Goals as goal
 

@@ -1,5 +1,4 @@
-use Rattle.std.proofs.Common.{◌≡◌, ◌++◌, ◌-◌, ◌≤◌}
-use Rattle.eco_answers.specs.Blocks.{standings_from}
+use Rattle.eco_answers.proofs.Common.{◌≡◌, ◌++◌, ◌-◌, ◌≤◌, standings_from}
 use Rattle.eco_answers.proofs.blocks.add_rows.Given as goal
 
 abbrev pub invariant-loop-place : goal.invariant-loop-place

@@ -1,9 +1,4 @@
-use Rattle.std.proofs.Common.{◌≡◌, ◌<◌, ℕ, length}
-use Rattle.std.specs.List.{slice_index_or}
-use Rattle.eco_ids.specs.Answer.{choices}
-use Rattle.eco_tables.specs.Tables.{table_in}
-use Rattle.eco_answers.specs.Answers.{asks}
-use Rattle.eco_answers.specs.Blocks.{IsBlock, block_at}
+use Rattle.eco_answers.proofs.Common.{◌≡◌, ◌<◌, ℕ, length, slice_index_or, choices, table_in, asks, IsBlock, block_at}
 use Rattle.eco_answers.proofs.blocks.blocks_of.Given as goal
 
 abbrev pub invariant-loop-slot : goal.invariant-loop-slot

@@ -1,5 +1,4 @@
-use Rattle.std.proofs.Common.{◌≡◌, ◌++◌}
-use Rattle.eco_answers.specs.Blocks.{standings_of}
+use Rattle.eco_answers.proofs.Common.{◌≡◌, ◌++◌, standings_of}
 use Rattle.eco_answers.proofs.blocks.rows_of.Given as goal
 
 abbrev pub invariant-loop-stands : goal.invariant-loop-stands

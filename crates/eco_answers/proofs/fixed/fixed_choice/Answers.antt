@@ -1,4 +1,4 @@
-use Rattle.std.proofs.Common.{sym}
+use Rattle.eco_answers.proofs.Common.{sym}
 use Rattle.eco_answers.proofs.FixedEntries.{slot_fixed}
 use Rattle.eco_answers.proofs.fixed.fixed_choice.Goals as goal
 

@@ -1,6 +1,4 @@
-use Rattle.std.proofs.Common.{take}
-use Rattle.eco_answers.specs.Answers.{asks}
-use Rattle.eco_answers.specs.Fixed.{AreFixed}
+use Rattle.eco_answers.proofs.Common.{take, asks, AreFixed}
 use Rattle.eco_answers.proofs.fixed.fixed_choice.Given as goal
 
 abbrev pub invariant-loop-slot : goal.invariant-loop-slot

@@ -1,7 +1,5 @@
-use Rattle.std.proofs.Common.{◌≡◌, Some, rules, subst, sym}
-use Rattle.eco_query.specs.Queries.{term_view}
+use Rattle.eco_answers.proofs.Common.{◌≡◌, Some, rules, subst, sym, term_view, IsFixed}
 use Rattle.eco_query.specs.declared.term.Term.TheVariants.{And}
-use Rattle.eco_answers.specs.Fixed.{IsFixed}
 use Rattle.eco_answers.proofs.FixedEntries.{exact_fixed}
 use Rattle.eco_answers.proofs.fixed.fixed_entry.Goals as goal
 

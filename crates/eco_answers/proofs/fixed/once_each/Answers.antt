@@ -1,7 +1,4 @@
-use Rattle.std.proofs.Common.{◌++◌, ◌∷◌, [], ap, ◌∙◌, rules}
-use Rattle.std.proofs.lemmas.List.Elements.{All-more}
-use Rattle.eco_entries.specs.Flat.{ChoicesState}
-use Rattle.eco_answers.specs.Fixed.{Ascends}
+use Rattle.eco_answers.proofs.Common.{◌++◌, ◌∷◌, [], ap, ◌∙◌, rules, All-more, ChoicesState, Ascends}
 use Rattle.eco_answers.proofs.FixedEntries.{copy_more}
 use Rattle.eco_answers.proofs.fixed.once_each.Goals as goal
 

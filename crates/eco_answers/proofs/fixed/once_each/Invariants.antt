@@ -1,7 +1,4 @@
-use Rattle.std.proofs.Common.{◌≡◌, length, take}
-use Rattle.std.specs.Prelude.{replicate}
-use Rattle.std.specs.List.{All}
-use Rattle.eco_answers.specs.Fixed.{Ascends}
+use Rattle.eco_answers.proofs.Common.{◌≡◌, length, take, replicate, All, Ascends}
 use Rattle.eco_answers.proofs.fixed.once_each.Given as goal
 
 abbrev pub invariant-loop-slot : goal.invariant-loop-slot

@@ -1,8 +1,4 @@
-use Rattle.std.proofs.Common.{◌≡◌, ◌<◌, List, map, ap, ◌∙◌, sym, subst, length}
-use Rattle.std.specs.List.{All}
-use Rattle.eco_store.specs.declared.standing.Standing.{Standing}
-use Rattle.eco_answers.specs.Answers.{asks}
-use Rattle.eco_answers.specs.Blocks.{standings_of, shown}
+use Rattle.eco_answers.proofs.Common.{◌≡◌, ◌<◌, List, map, ap, ◌∙◌, sym, subst, length, All, Standing, asks, standings_of, shown}
 use Rattle.eco_answers.proofs.Blocked.{all_shown, rows_within}
 use Rattle.eco_answers.proofs.results.expanded_in.Goals as goal
 

@@ -1,6 +1,4 @@
-use Rattle.std.proofs.Common.{length, ap, ◌∙◌}
-use Rattle.std.specs.Prelude.{map}
-use Rattle.eco_answers.specs.Blocks.{shown}
+use Rattle.eco_answers.proofs.Common.{length, ap, ◌∙◌, map, shown}
 use Rattle.eco_answers.proofs.FixedEntries.{fixed_shown, copies_long}
 use Rattle.eco_answers.proofs.results.fixed_in.Goals as goal
 

@@ -1,7 +1,4 @@
-use Rattle.std.proofs.Common.{◌∙◌, ap}
-use Rattle.std.proofs.lemmas.Result.{IfOk-weaker}
-use Rattle.eco_answers.specs.Answers.{asked}
-use Rattle.eco_answers.specs.Blocks.{results_at}
+use Rattle.eco_answers.proofs.Common.{◌∙◌, ap, IfOk-weaker, asked, results_at}
 use Rattle.eco_answers.proofs.Answered.{asks_asked}
 use Rattle.eco_answers.proofs.Blocked.{only_long, only_shown}
 use Rattle.eco_answers.proofs.results.own_in.Goals as goal

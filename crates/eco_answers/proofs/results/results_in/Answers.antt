@@ -1,6 +1,4 @@
-use Rattle.std.proofs.Common.{length, ap, sym, subst, arith}
-use Rattle.eco_answers.specs.Answers.{asks}
-use Rattle.eco_answers.specs.Fixed.{AreFixed}
+use Rattle.eco_answers.proofs.Common.{length, ap, sym, subst, arith, asks, AreFixed}
 use Rattle.eco_answers.proofs.Answered.{asks_asked}
 use Rattle.eco_answers.proofs.FixedEntries.{fixed_long, positive_some}
 use Rattle.eco_answers.proofs.results.results_in.Goals as goal

@@ -1,5 +1,4 @@
-use Rattle.std.proofs.Common.{◌<◌, ◌∙◌, length, arith, rules}
-use Rattle.std.proofs.lemmas.Result.{IfOk-weaker}
+use Rattle.eco_answers.proofs.Common.{◌<◌, ◌∙◌, length, arith, rules, IfOk-weaker}
 use Rattle.eco_ids.proofs.Results.{err_says}
 use Rattle.eco_answers.proofs.Answered.{all_fit, held_answers, none_answers, some_answers, standings_answer}
 use Rattle.eco_answers.proofs.results.results_of.Goals as goal

@@ -1,7 +1,4 @@
-use Rattle.std.proofs.Common.{true, option_map, subst, ap, ◌∙◌}
-use Rattle.eco_tables.specs.Table.{TableState}
-use Rattle.eco_index.specs.IdIndex.{Turns, any_matches, lists_of}
-use Rattle.eco_archetypes.specs.Archetypes.{SameSlots, type_at, type_matches}
+use Rattle.eco_archetypes.proofs.Common.{true, option_map, subst, ap, ◌∙◌, TableState, Turns, any_matches, lists_of, SameSlots, type_at, type_matches}
 use Rattle.eco_archetypes.proofs.ArchetypeLemmas.{changes_type, index_made}
 use Rattle.eco_archetypes.proofs.Makings.{unmade}
 use Rattle.eco_archetypes.proofs.Turnings.{index_slots}

@@ -1,5 +1,4 @@
-use Rattle.std.proofs.Common.{◌≡◌, take}
-use Rattle.eco_archetypes.specs.Archetypes.{standing_in}
+use Rattle.eco_archetypes.proofs.Common.{◌≡◌, take, standing_in}
 use Rattle.eco_archetypes.proofs.found.gather.Given as goal
 
 abbrev pub invariant-loop-slot : goal.invariant-loop-slot

@@ -1,5 +1,4 @@
-use Rattle.std.proofs.Common.{◌≡◌, ◌++◌, map, take}
-use Rattle.eco_batches.specs.Brought.{brought, pattern_key}
+use Rattle.eco_batches.proofs.Common.{◌≡◌, ◌++◌, map, take, brought, pattern_key}
 use Rattle.eco_batches.proofs.brought.append_brought.Given as goal
 
 abbrev pub invariant-loop-id : goal.invariant-loop-id

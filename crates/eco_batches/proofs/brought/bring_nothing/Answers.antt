@@ -1,8 +1,5 @@
-use Rattle.std.proofs.Common.{subst, sym, true≢false, ◌∙◌}
-use Rattle.std.specs.List.{AllByRecursion}
-use Rattle.std.proofs.lemmas.List.{take_all, take_more}
+use Rattle.eco_batches.proofs.Common.{subst, sym, true≢false, ◌∙◌, AllByRecursion, take_all, take_more, all_append}
 use Rattle.eco_batches.proofs.Brings.{BringsNothing, closed_alone, nothing_by}
-use Rattle.eco_systems.proofs.Lists.{all_append}
 use Rattle.eco_batches.proofs.brought.bring_nothing.Goals as goal
 
 pub loop-pattern-preserved : goal.loop-pattern-preserved

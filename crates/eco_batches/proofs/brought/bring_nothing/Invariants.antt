@@ -1,5 +1,4 @@
-use Rattle.std.proofs.Common.{take}
-use Rattle.std.specs.List.{AllByRecursion}
+use Rattle.eco_batches.proofs.Common.{take, AllByRecursion}
 use Rattle.eco_batches.proofs.Brings.{BringsNothing}
 use Rattle.eco_batches.proofs.brought.bring_nothing.Given as goal
 

@@ -1,5 +1,4 @@
-use Rattle.std.proofs.Common.{◌∙◌}
-use Rattle.std.proofs.lemmas.Result.{IfOk-weaker}
+use Rattle.eco_batches.proofs.Common.{◌∙◌, IfOk-weaker}
 use Rattle.eco_batches.proofs.Brings.{closed}
 use Rattle.eco_batches.proofs.brought.closure.Goals as goal
 

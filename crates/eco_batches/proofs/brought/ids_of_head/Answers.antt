@@ -1,4 +1,4 @@
-use Rattle.std.proofs.Common.{sym}
+use Rattle.eco_batches.proofs.Common.{sym}
 use Rattle.eco_batches.proofs.Brings.{brought_by_ids, has_shown}
 use Rattle.eco_batches.proofs.brought.ids_of_head.Goals as goal
 

@@ -1,6 +1,4 @@
-use Rattle.std.proofs.Common.{[], map, ap, ◌∙◌, refl}
-use Rattle.std.proofs.lemmas.List.{take_all}
-use Rattle.eco_batches.specs.Brought.{pattern_key}
+use Rattle.eco_batches.proofs.Common.{[], map, ap, ◌∙◌, refl, take_all, pattern_key}
 use Rattle.eco_batches.proofs.Orders.{map_more}
 use Rattle.eco_batches.proofs.brought.keys_of.Goals as goal
 

@@ -1,5 +1,4 @@
-use Rattle.std.proofs.Common.{◌≡◌, map, take}
-use Rattle.eco_batches.specs.Brought.{pattern_key}
+use Rattle.eco_batches.proofs.Common.{◌≡◌, map, take, pattern_key}
 use Rattle.eco_batches.proofs.brought.keys_of.Given as goal
 
 abbrev pub invariant-loop-pattern : goal.invariant-loop-pattern

@@ -1,9 +1,6 @@
-use Rattle.std.proofs.Common.{ap, ◌∙◌, map}
-use Rattle.std.proofs.lemmas.List.{take_all}
-use Rattle.indexmap.specs.IndexSet.{insert_all}
-use Rattle.eco_systems.specs.Writes as writes
-use Rattle.eco_batches.specs.Brought.{same_pattern}
+use Rattle.eco_batches.proofs.Common.{ap, ◌∙◌, map, take_all, insert_all, same_pattern}
 use Rattle.eco_batches.proofs.Once.{once_more}
+use Rattle.eco_systems.specs.Writes as writes
 use Rattle.eco_batches.proofs.closed.add_few.Goals as goal
 
 pub loop-pattern-preserved : goal.loop-pattern-preserved

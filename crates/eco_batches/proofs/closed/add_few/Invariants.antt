@@ -1,7 +1,5 @@
-use Rattle.std.proofs.Common.{◌≡◌, map, take}
-use Rattle.indexmap.specs.IndexSet.{insert_all}
+use Rattle.eco_batches.proofs.Common.{◌≡◌, map, take, insert_all, same_pattern}
 use Rattle.eco_systems.specs.Writes as writes
-use Rattle.eco_batches.specs.Brought.{same_pattern}
 use Rattle.eco_batches.proofs.closed.add_few.Given as goal
 
 abbrev pub invariant-loop-pattern : goal.invariant-loop-pattern

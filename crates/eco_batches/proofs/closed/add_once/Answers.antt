@@ -1,6 +1,4 @@
-use Rattle.std.proofs.Common.{ap, ◌∙◌}
-use Rattle.std.specs.List.{list_any}
-use Rattle.eco_batches.specs.Brought.{same_pattern}
+use Rattle.eco_batches.proofs.Common.{ap, ◌∙◌, list_any, same_pattern}
 use Rattle.eco_batches.proofs.Once.{pushed_once, stands}
 use Rattle.eco_batches.proofs.closed.add_once.Goals as goal
 

@@ -1,5 +1,4 @@
-use Rattle.std.proofs.Common.{refl}
-use Rattle.eco_batches.specs.Brought.{key_pattern}
+use Rattle.eco_batches.proofs.Common.{refl, key_pattern}
 use Rattle.eco_batches.proofs.Orders.{map_more}
 use Rattle.eco_batches.proofs.closed.append.Goals as goal
 

@@ -1,5 +1,4 @@
-use Rattle.std.proofs.Common.{◌≡◌, ◌++◌, map, take}
-use Rattle.eco_batches.specs.Brought.{key_pattern}
+use Rattle.eco_batches.proofs.Common.{◌≡◌, ◌++◌, map, take, key_pattern}
 use Rattle.eco_batches.proofs.closed.append.Given as goal
 
 abbrev pub invariant-loop-key : goal.invariant-loop-key

@@ -1,9 +1,7 @@
-use Rattle.std.proofs.Common.{◌++◌, map, ap, ◌∙◌}
-use Rattle.indexmap.specs.IndexSet.{insert_all}
-use Rattle.eco_systems.specs.Writes as writes
-use Rattle.eco_batches.specs.Brought.{unrepeated, key_pattern, same_pattern}
+use Rattle.eco_batches.proofs.Common.{◌++◌, map, ap, ◌∙◌, insert_all, unrepeated, key_pattern, same_pattern}
 use Rattle.eco_batches.proofs.Done.{if_done}
 use Rattle.eco_batches.proofs.Once.{lists_closed, once_is_distinct}
+use Rattle.eco_systems.specs.Writes as writes
 use Rattle.eco_batches.proofs.closed.list_closed.Goals as goal
 
 pub returns-then-bring_nothing-clause-closed : goal.returns-then-bring_nothing-clause-closed

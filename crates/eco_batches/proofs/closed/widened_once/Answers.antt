@@ -1,8 +1,6 @@
-use Rattle.std.proofs.Common.{ap, ◌∙◌, map}
-use Rattle.std.proofs.lemmas.List.{take_all}
-use Rattle.eco_systems.specs.Writes as writes
-use Rattle.eco_batches.specs.Brought.{unrepeated, key_pattern}
+use Rattle.eco_batches.proofs.Common.{ap, ◌∙◌, map, take_all, unrepeated, key_pattern}
 use Rattle.eco_batches.proofs.Once.{keyed_more}
+use Rattle.eco_systems.specs.Writes as writes
 use Rattle.eco_batches.proofs.closed.widened_once.Goals as goal
 
 pub loop-key-preserved : goal.loop-key-preserved

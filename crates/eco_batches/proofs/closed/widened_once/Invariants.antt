@@ -1,6 +1,5 @@
-use Rattle.std.proofs.Common.{◌≡◌, map, take}
+use Rattle.eco_batches.proofs.Common.{◌≡◌, map, take, unrepeated, key_pattern}
 use Rattle.eco_systems.specs.Writes as writes
-use Rattle.eco_batches.specs.Brought.{unrepeated, key_pattern}
 use Rattle.eco_batches.proofs.closed.widened_once.Given as goal
 
 abbrev pub invariant-loop-key : goal.invariant-loop-key

@@ -1,4 +1,4 @@
-use Rattle.eco_batches.specs.Outlines.{systems_of}
+use Rattle.eco_batches.proofs.Common.{systems_of}
 use Rattle.eco_batches.proofs.Orders.{phase_more}
 use Rattle.eco_batches.proofs.order.add_phases.Goals as goal
 

@@ -1,7 +1,4 @@
-use Rattle.std.proofs.Common.{◌≡◌, ◌++◌, take}
-use Rattle.std.specs.Prelude.{flat_map}
-use Rattle.eco_systems.specs.Phases.{positions_from}
-use Rattle.eco_batches.specs.Outlines.{systems_of}
+use Rattle.eco_batches.proofs.Common.{◌≡◌, ◌++◌, take, flat_map, positions_from, systems_of}
 use Rattle.eco_batches.proofs.order.add_phases.Given as goal
 
 abbrev pub invariant-loop-phase : goal.invariant-loop-phase

@@ -1,6 +1,4 @@
-use Rattle.std.proofs.Common.{◌≡◌, ◌++◌, drop}
-use Rattle.eco_systems.specs.Phases.{positions_from}
-use Rattle.eco_batches.specs.Outlines.{systems_of}
+use Rattle.eco_batches.proofs.Common.{◌≡◌, ◌++◌, drop, positions_from, systems_of}
 use Rattle.eco_batches.proofs.order.add_positions.Given as goal
 
 -- those of the systems that are left come behind

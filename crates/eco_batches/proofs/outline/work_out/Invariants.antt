@@ -1,6 +1,4 @@
-use Rattle.std.proofs.Common.{take}
-use Rattle.std.specs.List.{AllZip}
-use Rattle.eco_batches.specs.Outlines.{IsOutline}
+use Rattle.eco_batches.proofs.Common.{take, AllZip, IsOutline}
 use Rattle.eco_batches.proofs.outline.work_out.Given as goal
 
 abbrev pub invariant-loop-system : goal.invariant-loop-system

@@ -1,6 +1,4 @@
-use Rattle.std.proofs.Common.{map, sym, ap, ◌∙◌}
-use Rattle.std.proofs.lemmas.Result.{IfOk-weaker}
-use Rattle.eco_batches.specs.Outlines.{cut_of}
+use Rattle.eco_batches.proofs.Common.{map, sym, ap, ◌∙◌, IfOk-weaker, cut_of}
 use Rattle.eco_batches.proofs.Clashes.{cut_some, is_none, not_none}
 use Rattle.eco_batches.proofs.sync.cut.Goals as goal
 

@@ -1,8 +1,5 @@
-use Rattle.std.proofs.Common.{◌++◌, ◌+◌, [], map, refl, sym, ap, ◌∙◌, take, drop, slice_get}
-use Rattle.std.specs.List.{list_any}
-use Rattle.std.proofs.lemmas.List.{take_more}
-use Rattle.eco_systems.specs.Joining.{batched}
-use Rattle.eco_batches.specs.Outlines.{clash_at, traits_in}
+use Rattle.eco_batches.proofs.Common.{◌++◌, ◌+◌, [], map, refl, sym, ap, ◌∙◌, take, drop, slice_get, list_any, take_more, batched, clash_at}
+use Rattle.eco_batches.proofs.Common.{traits_in}
 use Rattle.eco_batches.proofs.Joins.{join_end, join_more}
 use Rattle.eco_batches.proofs.sync.join.Goals as goal
 

@@ -1,8 +1,5 @@
-use Rattle.std.proofs.Common.{◌≡◌, ◌++◌, [], map, slice_get, take, drop}
-use Rattle.std.specs.List.{list_any}
-use Rattle.eco_systems.specs.Joining.{batched}
+use Rattle.eco_batches.proofs.Common.{◌≡◌, ◌++◌, [], map, slice_get, take, drop, list_any, batched, clash_at, traits_in}
 use Rattle.eco_batches.specs.Open.{IsOpen}
-use Rattle.eco_batches.specs.Outlines.{clash_at, traits_in}
 use Rattle.eco_batches.proofs.sync.join.Given as goal
 
 abbrev pub invariant-loop-at : goal.invariant-loop-at

@@ -1,4 +1,4 @@
-use Rattle.std.proofs.Common.{◌∙◌, option_copied}
+use Rattle.eco_batches.proofs.Common.{◌∙◌, option_copied}
 use Rattle.eco_batches.proofs.Done.{if_done}
 use Rattle.eco_batches.proofs.Joins.{clash_found, joined_in, opened}
 use Rattle.eco_batches.proofs.sync.join_next.Goals as goal

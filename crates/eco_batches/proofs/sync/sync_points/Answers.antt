@@ -1,5 +1,4 @@
-use Rattle.std.proofs.Common.{map, ◌∙◌}
-use Rattle.std.proofs.lemmas.Result.{IfOk-weaker}
+use Rattle.eco_batches.proofs.Common.{map, ◌∙◌, IfOk-weaker}
 use Rattle.eco_batches.proofs.Clashes.{cuts_are_placed}
 use Rattle.eco_batches.proofs.sync.sync_points.Goals as goal
 

@@ -1,4 +1,4 @@
-use Rattle.std.proofs.Common.{◌∙◌}
+use Rattle.eco_batches.proofs.Common.{◌∙◌}
 use Rattle.eco_batches.proofs.Keyed.{id_found}
 use Rattle.eco_batches.proofs.written.has_id.Goals as goal
 

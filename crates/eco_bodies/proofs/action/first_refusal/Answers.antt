@@ -1,5 +1,4 @@
-use Rattle.std.proofs.Common.{map, rules}
-use Rattle.eco_query.specs.Queries.{slot_view}
+use Rattle.eco_bodies.proofs.Common.{map, rules, slot_view}
 use Rattle.eco_bodies.proofs.Refused.{refused_here, refused_later}
 use Rattle.eco_bodies.proofs.action.first_refusal.Goals as goal
 

@@ -1,5 +1,4 @@
-use Rattle.std.proofs.Common.{◌≡◌, map, drop}
-use Rattle.eco_query.specs.Queries.{slot_view}
+use Rattle.eco_bodies.proofs.Common.{◌≡◌, map, drop, slot_view}
 use Rattle.eco_bodies.specs.Actions as spec
 use Rattle.eco_bodies.proofs.action.first_refusal.Given as goal
 

@@ -1,4 +1,4 @@
-use Rattle.std.proofs.Common.{length, sym, ◌∙◌, eqb-true}
+use Rattle.eco_bodies.proofs.Common.{length, sym, ◌∙◌, eqb-true}
 use Rattle.eco_bodies.specs.Settling.{same_count}
 use Rattle.eco_bodies.proofs.Entries.{same_beginning}
 use Rattle.eco_bodies.proofs.lawful.scripts_take_one_beginning.Goals as goal

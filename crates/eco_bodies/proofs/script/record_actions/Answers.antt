@@ -1,7 +1,5 @@
-use Rattle.std.proofs.Common.{◌∙◌}
-use Rattle.std.proofs.lemmas.Option.{slice_get-get_or}
+use Rattle.eco_bodies.proofs.Common.{◌∙◌, slice_get-get_or, action_commands, takes_draws}
 use Rattle.std.proofs.lemmas.Result.{err_from_is_err_and}
-use Rattle.eco_bodies.specs.Scripts.{action_commands, takes_draws}
 use Rattle.eco_bodies.proofs.Taken.{broke_more, took_more}
 use Rattle.eco_bodies.proofs.script.record_actions.Goals as goal
 

@@ -1,5 +1,4 @@
-use Rattle.std.proofs.Common.{◌≡◌, false, take}
-use Rattle.eco_bodies.specs.Scripts.{action_commands, takes_draws}
+use Rattle.eco_bodies.proofs.Common.{◌≡◌, false, take, action_commands, takes_draws}
 use Rattle.eco_bodies.specs.Taking.{AllTook}
 use Rattle.eco_bodies.proofs.script.record_actions.Given as goal
 

@@ -1,4 +1,4 @@
-use Rattle.std.proofs.Common.{rules, pos}
+use Rattle.eco_bodies.proofs.Common.{rules, pos}
 use Rattle.eco_bodies.proofs.Fields.{summed_more}
 use Rattle.eco_bodies.proofs.sum.sum_of.Goals as goal
 

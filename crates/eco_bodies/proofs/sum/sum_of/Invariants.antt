@@ -1,4 +1,4 @@
-use Rattle.std.proofs.Common.{◌≡◌}
+use Rattle.eco_bodies.proofs.Common.{◌≡◌}
 use Rattle.eco_bodies.proofs.Fields.{summed}
 use Rattle.eco_bodies.proofs.sum.sum_of.Given as goal
 

@@ -1,4 +1,4 @@
-use Rattle.std.specs.Prelude.{string_bytes}
+use Rattle.eco_bodies.proofs.Common.{string_bytes}
 use Rattle.eco_bodies.proofs.Called.{name_added}
 use Rattle.eco_bodies.proofs.systems.add_name.Goals as goal
 

@@ -1,7 +1,5 @@
-use Rattle.eco_ids.proofs.Common.{flat_map, map, ap, refl, ◌∙◌, take_all}
-use Rattle.eco_query.specs.Queries.{slot_view}
+use Rattle.eco_bodies.proofs.Common.{flat_map, map, ap, refl, ◌∙◌, take_all, slot_view, action_writes}
 use Rattle.eco_ids.proofs.Further.{flat_map_further}
-use Rattle.eco_bodies.specs.Actions.{action_writes}
 use Rattle.eco_bodies.proofs.writes.script_writes.Goals as goal
 
 pub loop-action-preserved : goal.loop-action-preserved

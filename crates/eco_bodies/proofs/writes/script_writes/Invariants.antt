@@ -1,6 +1,4 @@
-use Rattle.eco_ids.proofs.Common.{◌≡◌, take, flat_map, map}
-use Rattle.eco_query.specs.Queries.{slot_view}
-use Rattle.eco_bodies.specs.Actions.{action_writes}
+use Rattle.eco_bodies.proofs.Common.{◌≡◌, take, flat_map, map, slot_view, action_writes}
 use Rattle.eco_bodies.proofs.writes.script_writes.Given as goal
 
 abbrev pub invariant-loop-action : goal.invariant-loop-action

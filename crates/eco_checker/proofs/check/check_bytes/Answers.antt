@@ -1,4 +1,4 @@
-use Rattle.serde_json.specs.View.{view}
+use Rattle.eco_checker.proofs.Common.{view}
 use Rattle.eco_checker.proofs.Bytes.{if_ok_false, no_script_bytes}
 use Rattle.eco_checker.proofs.check.check_bytes.Goals as goal
 

@@ -1,6 +1,4 @@
-use Rattle.serde_json.specs.View.{view}
-use Rattle.eco_steps.specs.Decode.{step_in}
-use Rattle.eco_checker.specs.Faults.{edition_in, items_in}
+use Rattle.eco_checker.proofs.Common.{view, step_in, edition_in, items_in}
 use Rattle.eco_checker.proofs.Lines.{same_faults}
 use Rattle.eco_checker.proofs.Listed.{are_below}
 use Rattle.eco_checker.proofs.check.check_value.Goals as goal

@@ -1,7 +1,5 @@
-use Rattle.std.proofs.Common.{◌∙◌}
-use Rattle.std.specs.Prelude.{codes}
+use Rattle.eco_checker.proofs.Common.{◌∙◌, codes, place_text}
 use Rattle.eco_checker.proofs.Lines.{line_text, ok_all}
-use Rattle.eco_checker.specs.Places.{place_text}
 use Rattle.eco_checker.proofs.report.line_of.Goals as goal
 
 pub returns : goal.returns

@@ -1,6 +1,6 @@
 use Rattle.eco_checker.proofs.Lines.{looked_up, one_more_step}
-use Rattle.eco_checker.proofs.report.lines_of.Goals as goal
 use Rattle.eco_checker.proofs.report.lines_of.Goals.{in-Some+in_ok-push_step, in_default}
+use Rattle.eco_checker.proofs.report.lines_of.Goals as goal
 
 pub loop-step-preserved : goal.loop-step-preserved
 loop-step-preserved c = elim c.match-get.branch [

@@ -1,5 +1,4 @@
-use Rattle.std.proofs.Common.{map, string_bytes, take}
-use Rattle.eco_checker.specs.Lines.{AreFaultLines}
+use Rattle.eco_checker.proofs.Common.{map, string_bytes, take, AreFaultLines}
 use Rattle.eco_checker.proofs.report.lines_of.Given as goal
 
 -- the lines are those of the head and of the steps so far

@@ -1,4 +1,4 @@
-use Rattle.std.specs.Prelude.{string_bytes}
+use Rattle.eco_checker.proofs.Common.{string_bytes}
 use Rattle.eco_checker.proofs.Lines.{end_told, on_ok}
 use Rattle.eco_checker.proofs.report.push_end.Goals as goal
 

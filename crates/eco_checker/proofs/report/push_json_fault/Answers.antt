@@ -1,6 +1,5 @@
-use Rattle.std.proofs.Common.{refl}
+use Rattle.eco_checker.proofs.Common.{refl, unread_text}
 use Rattle.eco_checker.proofs.Lines.{on_ok}
-use Rattle.eco_checker.specs.Lines.{unread_text}
 use Rattle.eco_checker.proofs.report.push_json_fault.Goals as goal
 
 pub returns : goal.returns

@@ -1,4 +1,4 @@
-use Rattle.std.proofs.Common.{◌≡◌, ◌++◌, take, flat_map, string_bytes}
+use Rattle.eco_checker.proofs.Common.{◌≡◌, ◌++◌, take, flat_map, string_bytes}
 use Rattle.eco_checker.proofs.report.push_lines.Given as goal
 
 -- the lines so far

@@ -1,5 +1,4 @@
-use Rattle.std.proofs.Common.{ap, ◌∙◌, ◌++◌, flat_map}
-use Rattle.std.specs.Prelude.{string_bytes}
+use Rattle.eco_checker.proofs.Common.{ap, ◌∙◌, ◌++◌, flat_map, string_bytes}
 use Rattle.eco_checker.proofs.Lines.{on_ok, report_told}
 use Rattle.eco_checker.proofs.report.push_report.Goals as goal
 

@@ -1,4 +1,4 @@
-use Rattle.std.specs.Prelude.{string_bytes}
+use Rattle.eco_checker.proofs.Common.{string_bytes}
 use Rattle.eco_checker.proofs.Lines.{on_ok, unread_told}
 use Rattle.eco_checker.proofs.report.push_unread.Goals as goal
 

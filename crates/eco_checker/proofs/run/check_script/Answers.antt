@@ -1,4 +1,4 @@
-use Rattle.std.proofs.Common.{◌≡◌, ◌∙◌, ◌++◌, ap}
+use Rattle.eco_checker.proofs.Common.{◌≡◌, ◌∙◌, ◌++◌, ap}
 use Rattle.eco_checker.proofs.Bytes.{none_to_end, stopped_to_end, told_to_end}
 use Rattle.eco_checker.proofs.run.check_script.Goals as goal
 

@@ -1,8 +1,4 @@
-use Rattle.std.proofs.Common.{arith, ◌∙◌, ap, ◌++◌}
-use Rattle.serde_json.specs.View.{view}
-use Rattle.eco_steps.specs.Decode.{action_in}
-use Rattle.eco_steps.specs.Views.{action_view}
-use Rattle.eco_checker.specs.Faults.{unless_read}
+use Rattle.eco_checker.proofs.Common.{arith, ◌∙◌, ap, ◌++◌, view, action_in, action_view, unless_read}
 use Rattle.eco_checker.proofs.Numbers.{one_more}
 use Rattle.eco_checker.proofs.search.actions_not_read.Goals as goal
 

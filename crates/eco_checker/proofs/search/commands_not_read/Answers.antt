@@ -1,8 +1,4 @@
-use Rattle.std.proofs.Common.{arith, ◌∙◌, ap, ◌++◌}
-use Rattle.serde_json.specs.View.{view}
-use Rattle.eco_steps.specs.Decode.{command_in}
-use Rattle.eco_steps.specs.Views.{command_view}
-use Rattle.eco_checker.specs.Faults.{unless_read}
+use Rattle.eco_checker.proofs.Common.{arith, ◌∙◌, ap, ◌++◌, view, command_in, command_view, unless_read}
 use Rattle.eco_checker.proofs.Numbers.{one_more}
 use Rattle.eco_checker.proofs.search.commands_not_read.Goals as goal
 

@@ -1,7 +1,4 @@
-use Rattle.std.proofs.Common.{◌≡◌, map, take}
-use Rattle.serde_json.specs.View.{view}
-use Rattle.eco_steps.specs.Decode.{command_in}
-use Rattle.eco_checker.specs.Faults.{numbers_without}
+use Rattle.eco_checker.proofs.Common.{◌≡◌, map, take, view, command_in, numbers_without}
 use Rattle.eco_checker.proofs.search.commands_not_read.Given as goal
 
 -- the numbers so far are those of the values so far

@@ -1,7 +1,4 @@
-use Rattle.std.proofs.Common.{ap, ◌∙◌}
-use Rattle.eco_ids.specs.Order.{entity_cmp, has_item}
-use Rattle.eco_ids.proofs.Results.{on_ok}
-use Rattle.eco_store.specs.Worlds.{world_of}
+use Rattle.eco_cleanup.proofs.Common.{ap, ◌∙◌, entity_cmp, has_item, on_ok, world_of}
 use Rattle.eco_cleanup.proofs.TakenOut.{all_left, taken_one_way}
 use Rattle.eco_cleanup.proofs.deleting.carry_out.Goals as goal
 

@@ -1,7 +1,4 @@
-use Rattle.std.proofs.Common.{IsTrue, ◌∙◌, subst}
-use Rattle.eco_ids.specs.Cleanup.{IsDoomed, names_any}
-use Rattle.eco_ids.specs.Order.{entity_cmp, has_item}
-use Rattle.eco_store.specs.Worlds.{world_of}
+use Rattle.eco_cleanup.proofs.Common.{IsTrue, ◌∙◌, subst, IsDoomed, names_any, entity_cmp, has_item, world_of}
 use Rattle.eco_cleanup.proofs.OnlyHeld.{listed_one, none_forbids}
 use Rattle.eco_cleanup.proofs.Planned.{as_listed}
 use Rattle.eco_cleanup.proofs.deleting.delete.Goals as goal

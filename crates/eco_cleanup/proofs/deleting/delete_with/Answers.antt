@@ -1,8 +1,5 @@
-use Rattle.std.proofs.Common.{IsTrue, ◌∙◌}
-use Rattle.eco_ids.specs.Cleanup.{names_any}
-use Rattle.eco_ids.specs.Order.{entity_cmp, has_item}
+use Rattle.eco_cleanup.proofs.Common.{IsTrue, ◌∙◌, names_any, entity_cmp, has_item, entities_with}
 use Rattle.eco_cleanup.proofs.Planned.{as_listed}
-use Rattle.eco_store.specs.Holders.{entities_with}
 use Rattle.eco_cleanup.proofs.deleting.delete_with.Goals as goal
 
 pub carry_out-requires : goal.carry_out-requires

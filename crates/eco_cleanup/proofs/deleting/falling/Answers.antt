@@ -1,6 +1,4 @@
-use Rattle.std.proofs.Common.{map, sym, ap, ◌∙◌}
-use Rattle.std.proofs.lemmas.List.{map_more, take_all}
-use Rattle.eco_cleanup.specs.declared.node.Node.TheVariants.{Falling}
+use Rattle.eco_cleanup.proofs.Common.{map, sym, ap, ◌∙◌, map_more, take_all, Falling}
 use Rattle.eco_cleanup.proofs.deleting.falling.Goals as goal
 
 pub loop-slot-preserved : goal.loop-slot-preserved

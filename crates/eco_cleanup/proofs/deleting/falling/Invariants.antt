@@ -1,5 +1,4 @@
-use Rattle.std.proofs.Common.{◌≡◌, map, take}
-use Rattle.eco_cleanup.specs.declared.node.Node.TheVariants.{Falling}
+use Rattle.eco_cleanup.proofs.Common.{◌≡◌, map, take, Falling}
 use Rattle.eco_cleanup.proofs.deleting.falling.Given as goal
 
 abbrev pub invariant-loop-slot : goal.invariant-loop-slot

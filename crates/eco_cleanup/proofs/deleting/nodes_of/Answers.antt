@@ -1,6 +1,4 @@
-use Rattle.std.proofs.Common.{map, sym, ap, ◌∙◌}
-use Rattle.std.proofs.lemmas.List.{map_more, take_all}
-use Rattle.eco_cleanup.specs.declared.node.Node.TheVariants.{Root}
+use Rattle.eco_cleanup.proofs.Common.{map, sym, ap, ◌∙◌, map_more, take_all, Root}
 use Rattle.eco_cleanup.proofs.deleting.nodes_of.Goals as goal
 
 pub loop-entity-preserved : goal.loop-entity-preserved

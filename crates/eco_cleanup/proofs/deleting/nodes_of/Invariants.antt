@@ -1,5 +1,4 @@
-use Rattle.std.proofs.Common.{◌≡◌, map, take}
-use Rattle.eco_cleanup.specs.declared.node.Node.TheVariants.{Root}
+use Rattle.eco_cleanup.proofs.Common.{◌≡◌, map, take, Root}
 use Rattle.eco_cleanup.proofs.deleting.nodes_of.Given as goal
 
 abbrev pub invariant-loop-entity : goal.invariant-loop-entity

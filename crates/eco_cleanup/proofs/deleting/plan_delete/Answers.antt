@@ -1,11 +1,5 @@
-use Rattle.std.proofs.Common.{List, IfOk, IsTrue, sym, ap, ◌∙◌, subst}
-use Rattle.eco_ids.specs.Cleanup.{IsDoomed}
-use Rattle.eco_ids.specs.Order.{entity_cmp, has_item}
-use Rattle.eco_ids.specs.declared.entity.Entity.{Entity}
-use Rattle.eco_cleanup.specs.Nodes.{AreStarts, taken_among}
-use Rattle.eco_cleanup.specs.Objections.{AnswersDelete}
-use Rattle.eco_cleanup.specs.Plans.{IsDeletePlan}
-use Rattle.eco_store.specs.Worlds.{world_of}
+use Rattle.eco_cleanup.proofs.Common.{List, IfOk, IsTrue, sym, ap, ◌∙◌, subst, IsDoomed, entity_cmp, has_item, Entity, AreStarts, taken_among}
+use Rattle.eco_cleanup.proofs.Common.{AnswersDelete, IsDeletePlan, world_of}
 use Rattle.eco_cleanup.proofs.Deaths.{taken_roots}
 use Rattle.eco_cleanup.proofs.Noted.{roots_start}
 use Rattle.eco_cleanup.proofs.deleting.plan_delete.Goals as goal

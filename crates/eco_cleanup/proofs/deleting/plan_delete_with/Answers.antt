@@ -1,17 +1,9 @@
-use Rattle.std.proofs.Common.{◌≡◌, Bool, List, map, IfOk, IsTrue, sym, ap, ◌∙◌, subst}
-use Rattle.eco_ids.specs.Cleanup.{IsDoomed}
-use Rattle.eco_ids.specs.Order.{entity_cmp, has_item}
-use Rattle.eco_ids.specs.declared.entity.Entity.{Entity}
-use Rattle.eco_cleanup.specs.Nodes.{AreStarts, taken_among}
-use Rattle.eco_cleanup.specs.Objections.{AnswersDelete}
-use Rattle.eco_cleanup.specs.Plans.{IsDeletePlan}
-use Rattle.eco_store.specs.Holders.{entities_with}
-use Rattle.eco_store.specs.Worlds.{world_of}
-use Rattle.eco_cleanup.specs.declared.node.Node.TheVariants.{Falling}
+use Rattle.eco_cleanup.proofs.Common.{◌≡◌, Bool, List, map, IfOk, IsTrue, sym, ap, ◌∙◌, subst, IsDoomed, entity_cmp, has_item, Entity, AreStarts}
+use Rattle.eco_cleanup.proofs.Common.{taken_among, AnswersDelete, IsDeletePlan, entities_with, world_of, Falling}
 use Rattle.eco_cleanup.proofs.Noted.{tables_start}
 use Rattle.eco_cleanup.proofs.Rooted.{tables_taken}
-use Rattle.eco_cleanup.proofs.deleting.plan_delete_with.Goals as goal
 use Rattle.eco_cleanup.proofs.deleting.plan_delete_with.Goals.{After-plan}
+use Rattle.eco_cleanup.proofs.deleting.plan_delete_with.Goals as goal
 
 pub plan-requires-clause-starts : goal.plan-requires-clause-starts
 plan-requires-clause-starts c = subst AreStarts (sym (c.deref-2.ensures.value ∙ c.in_ok-starts.ensures)) (tables_start c.deref.result.now)

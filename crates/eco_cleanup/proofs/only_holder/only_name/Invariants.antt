@@ -1,5 +1,4 @@
-use Rattle.std.proofs.Common.{◌≡◌, filter, take}
-use Rattle.eco_ids.specs.Order.{names_entity}
+use Rattle.eco_cleanup.proofs.Common.{◌≡◌, filter, take, names_entity}
 use Rattle.eco_cleanup.proofs.OnlyFound.{listed}
 use Rattle.eco_cleanup.proofs.only_holder.only_name.Given as goal
 

@@ -1,7 +1,4 @@
-use Rattle.std.proofs.Common.{Bool, if◌then◌else◌, sym, ap, ◌∙◌}
-use Rattle.eco_ids.specs.declared.entity.TheConstants.{DELETE, PANIC, REMOVE}
-use Rattle.eco_ids.specs.declared.id.Id.TheVariants.{Two}
-use Rattle.eco_ids.specs.Order.{has_item, id_cmp}
+use Rattle.eco_cleanup.proofs.Common.{Bool, if◌then◌else◌, sym, ap, ◌∙◌, DELETE, PANIC, REMOVE, Two, has_item, id_cmp}
 use Rattle.eco_cleanup.proofs.policy.action_in.Goals as goal
 
 pub returns-then-has : goal.returns-then-has

@@ -1,6 +1,5 @@
-use Rattle.std.proofs.Common.{◌∙◌}
+use Rattle.eco_cleanup.proofs.Common.{◌∙◌, world_of}
 use Rattle.eco_cleanup.proofs.Roles.{policy_of_ids}
-use Rattle.eco_store.specs.Worlds.{world_of}
 use Rattle.eco_cleanup.proofs.policy.policy.Goals as goal
 
 pub returns-in-Some : goal.returns-in-Some

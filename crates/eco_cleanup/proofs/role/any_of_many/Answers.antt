@@ -1,4 +1,4 @@
-use Rattle.std.proofs.Common.{◌∙◌}
+use Rattle.eco_cleanup.proofs.Common.{◌∙◌}
 use Rattle.eco_cleanup.proofs.Relationships.{deletes_exactly}
 use Rattle.eco_cleanup.proofs.role.any_of_many.Goals as goal
 

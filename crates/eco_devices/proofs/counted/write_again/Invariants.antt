@@ -1,4 +1,4 @@
-use Rattle.std.specs.Io.KnownBytes.{Keeps}
+use Rattle.eco_devices.proofs.Common.{Keeps}
 use Rattle.eco_devices.proofs.counted.write_again.Given as goal
 
 -- nothing was written

@@ -1,5 +1,4 @@
-use Rattle.std.proofs.Common.{arith, refl, inl, inr, ◌+◌, ◌∙◌, ap}
-use Rattle.std.proofs.KnownBytes.{Consumes-nil}
+use Rattle.eco_devices.proofs.Common.{arith, refl, inl, inr, ◌+◌, ◌∙◌, ap, Consumes-nil}
 use Rattle.eco_devices.proofs.Devices.{Consumes-end, Consumes-more}
 use Rattle.eco_devices.proofs.transfer.read_all.Goals as goal
 

@@ -1,5 +1,4 @@
-use Rattle.std.proofs.Common.{◌≡◌, ◌+◌}
-use Rattle.std.specs.Io.KnownBytes.{Consumes}
+use Rattle.eco_devices.proofs.Common.{◌≡◌, ◌+◌, Consumes}
 use Rattle.eco_devices.proofs.transfer.read_all.Given as goal
 
 -- the bytes so far came from the reader, and no call has failed

@@ -1,6 +1,5 @@
-use Rattle.std.proofs.Common.{rules}
+use Rattle.eco_devices.proofs.Common.{rules, take_rest}
 use Rattle.std.proofs.lemmas.Result.{err_from_is_err_and}
-use Rattle.std.proofs.lemmas.List.{take_rest}
 use Rattle.eco_devices.proofs.Devices.{Appends-beginning, Appends-take_more}
 use Rattle.eco_devices.proofs.transfer.write_all.Goals as goal
 

@@ -1,5 +1,4 @@
-use Rattle.std.proofs.Common.{◌≡◌, ◌≤◌, ◌-◌, length, take}
-use Rattle.std.specs.Io.KnownBytes.{Appends}
+use Rattle.eco_devices.proofs.Common.{◌≡◌, ◌≤◌, ◌-◌, length, take, Appends}
 use Rattle.eco_devices.proofs.transfer.write_all.Given as goal
 
 -- the first bytes were written, and no call has failed

@@ -1,6 +1,4 @@
-use Rattle.std.proofs.Common.{length, ◌-◌}
-use Rattle.eco_entities.specs.Changes.{KeepsAnswers}
-use Rattle.eco_entities.specs.Pages.{name_at}
+use Rattle.eco_entities.proofs.Common.{length, ◌-◌, KeepsAnswers, name_at}
 use Rattle.eco_entities.proofs.labels.cover.Given as goal
 
 abbrev pub invariant-loop-pages : goal.invariant-loop-pages

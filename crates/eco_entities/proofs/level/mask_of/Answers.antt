@@ -1,5 +1,4 @@
-use Rattle.std.proofs.lemmas.Grind.{common_steps}
-use Rattle.std.proofs.Common.{◌≤◌, arith}
+use Rattle.eco_entities.proofs.Common.{common_steps, ◌≤◌, arith}
 use Rattle.eco_entities.specs.Words.{range_mask}
 use Rattle.eco_entities.proofs.Bits.{mask_order, mask_is}
 use Rattle.eco_entities.proofs.level.mask_of.Goals as goal

@@ -1,11 +1,5 @@
-use Rattle.std.proofs.Common.{◌≡◌, ℕ, suc, ◌-◌, ◌<◌, length, drop, slice_get, Some, Err, refl, sym, ap, ◌∙◌, subst, arith}
-use Rattle.std.specs.Prelude.{MatchResult}
-use Rattle.std.specs.Ordering.{nat_cmp}
-use Rattle.std.specs.declared.cmp.Ordering.TheVariants.{Less, Equal}
-use Rattle.std.proofs.lemmas.Cmp.{ranked}
-use Rattle.std.proofs.lemmas.Option.{slice_get_read}
-use Rattle.eco_entities.specs.declared.label.Label.{Label}
-use Rattle.eco_entities.specs.Pages.{IsEntry, IsGap}
+use Rattle.eco_entities.proofs.Common.{◌≡◌, ℕ, suc, ◌-◌, ◌<◌, length, drop, slice_get, Some, Err, refl, sym, ap, ◌∙◌, subst, arith}
+use Rattle.eco_entities.proofs.Common.{MatchResult, nat_cmp, Less, Equal, ranked, slice_get_read, Label, IsEntry, IsGap}
 use Rattle.eco_entities.proofs.Seats.{seat, seat_is, seat_found, seat_after}
 use Rattle.eco_entities.proofs.page.seek.Goals as goal
 

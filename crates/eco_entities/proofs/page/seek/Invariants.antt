@@ -1,4 +1,4 @@
-use Rattle.std.proofs.Common.{◌≡◌, ◌≤◌, length, drop, Err}
+use Rattle.eco_entities.proofs.Common.{◌≡◌, ◌≤◌, length, drop, Err}
 use Rattle.eco_entities.proofs.Seats.{seat}
 use Rattle.eco_entities.proofs.page.seek.Given as goal
 

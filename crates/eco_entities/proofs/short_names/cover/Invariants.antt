@@ -1,6 +1,4 @@
-use Rattle.std.proofs.Common.{length, ◌-◌, ◌≤◌}
-use Rattle.eco_entities.specs.Changes.{KeepsAnswers}
-use Rattle.eco_entities.specs.Keys.{found_among}
+use Rattle.eco_entities.proofs.Common.{length, ◌-◌, ◌≤◌, KeepsAnswers, found_among}
 use Rattle.eco_entities.proofs.short_names.cover.Given as goal
 
 abbrev pub invariant-loop-trees : goal.invariant-loop-trees

@@ -1,4 +1,4 @@
-use Rattle.std.proofs.Common.{◌≡◌, ◌+◌, ◌-◌, ◌≤◌, ◌++◌, replicate, vec_len, vec_capacity}
+use Rattle.eco_entities.proofs.Common.{◌≡◌, ◌+◌, ◌-◌, ◌≤◌, ◌++◌, replicate, vec_len, vec_capacity}
 use Rattle.eco_entities.proofs.slots.push_copies.Given as goal
 
 abbrev pub invariant-loop : goal.invariant-loop

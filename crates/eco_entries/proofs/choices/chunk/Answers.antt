@@ -1,4 +1,4 @@
-use Rattle.std.proofs.Common.{Some, take, drop, ap, ◌∙◌, ◌*◌, ◌+◌, ◌-◌, ◌≡◌, arith}
+use Rattle.eco_entries.proofs.Common.{Some, take, drop, ap, ◌∙◌, ◌*◌, ◌+◌, ◌-◌, ◌≡◌, arith}
 use Rattle.eco_entries.proofs.Chunked.{chunk_read}
 use Rattle.eco_entries.proofs.choices.chunk.Goals as goal
 

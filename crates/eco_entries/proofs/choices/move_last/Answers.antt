@@ -1,7 +1,4 @@
-use Rattle.std.proofs.Common.{◌≡◌, ◌*◌, ◌+◌, ◌-◌, ap, ◌∙◌, append_assoc, arith, suc, drop, take}
-use Rattle.std.proofs.Math.Nat.{suc-mul}
-use Rattle.std.proofs.Math.Seq.{paste}
-use Rattle.eco_entries.specs.Flat.{chunks}
+use Rattle.eco_entries.proofs.Common.{◌≡◌, ◌*◌, ◌+◌, ◌-◌, ap, ◌∙◌, append_assoc, arith, suc, drop, take, suc-mul, paste, chunks}
 use Rattle.eco_entries.proofs.Chunked.{last_moved}
 use Rattle.eco_entries.proofs.choices.move_last.Goals as goal
 

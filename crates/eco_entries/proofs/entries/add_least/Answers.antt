@@ -1,9 +1,4 @@
-use Rattle.std.proofs.Common.{◌≡◌, ◌++◌, ap, sym, ◌∙◌, map, refl, Some, rules}
-use Rattle.std.specs.Prelude.{filter}
-use Rattle.std.proofs.lemmas.Result.{on_ok_weaker}
-use Rattle.eco_ids.specs.Answer.{is_least_match}
-use Rattle.eco_ids.specs.declared.pattern.Part.TheVariants.{Is, Each}
-use Rattle.eco_ids.specs.declared.pattern.Pattern.TheVariants.{One, Two}
+use Rattle.eco_entries.proofs.Common.{◌≡◌, ◌++◌, ap, sym, ◌∙◌, map, refl, Some, rules, filter, on_ok_weaker, is_least_match, Is, Each, One, Two}
 use Rattle.eco_entries.proofs.Least.{matches_least}
 use Rattle.eco_entries.proofs.entries.add_least.Goals as goal
 

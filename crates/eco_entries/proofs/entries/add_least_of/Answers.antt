@@ -1,5 +1,4 @@
-use Rattle.std.proofs.Common.{◌++◌, ap, ◌∙◌, map, Some, rules}
-use Rattle.std.proofs.lemmas.Result.{on_ok_weaker}
+use Rattle.eco_entries.proofs.Common.{◌++◌, ap, ◌∙◌, map, Some, rules, on_ok_weaker}
 use Rattle.eco_entries.proofs.Least.{matches_least}
 use Rattle.eco_entries.proofs.entries.add_least_of.Goals as goal
 

@@ -1,8 +1,7 @@
-use Rattle.std.proofs.Common.{ap, sym, ◌∙◌}
-use Rattle.eco_ids.specs.Answer.{is_least_match}
+use Rattle.eco_entries.proofs.Common.{ap, sym, ◌∙◌, is_least_match}
 use Rattle.eco_entries.proofs.Filtered.{filtered_in, filtered_out}
-use Rattle.eco_entries.proofs.entries.add_least_of_few.Goals as goal
 use Rattle.eco_entries.proofs.entries.add_least_of_few.Goals.{then-is_least+in_ok-push, else-is_least}
+use Rattle.eco_entries.proofs.entries.add_least_of_few.Goals as goal
 
 pub loop-id-preserved : goal.loop-id-preserved
 loop-id-preserved c =

@@ -1,8 +1,7 @@
-use Rattle.std.proofs.Common.{ap, sym, ◌∙◌}
-use Rattle.eco_ids.specs.Matching.{pattern_matches}
+use Rattle.eco_entries.proofs.Common.{ap, sym, ◌∙◌, pattern_matches}
 use Rattle.eco_entries.proofs.Filtered.{filtered_in, filtered_out}
-use Rattle.eco_entries.proofs.entries.add_matches.Goals as goal
 use Rattle.eco_entries.proofs.entries.add_matches.Goals.{then-matches+in_ok-put, else-matches}
+use Rattle.eco_entries.proofs.entries.add_matches.Goals as goal
 
 pub loop-id-preserved : goal.loop-id-preserved
 loop-id-preserved c =

@@ -1,9 +1,8 @@
-use Rattle.std.proofs.Common.{ap, sym, ◌∙◌}
-use Rattle.eco_ids.specs.Answer.{is_least_match}
+use Rattle.eco_entries.proofs.Common.{ap, sym, ◌∙◌, is_least_match}
 use Rattle.eco_entries.proofs.Filtered.{filtered_in, filtered_out}
 use Rattle.eco_entries.proofs.Unseen.{least_is_first, seen_more}
-use Rattle.eco_entries.proofs.fillings.add_new.Goals as goal
 use Rattle.eco_entries.proofs.fillings.add_new.Goals.{then-branch+in_ok-put, else-branch}
+use Rattle.eco_entries.proofs.fillings.add_new.Goals as goal
 
 pub loop-id-preserved : goal.loop-id-preserved
 loop-id-preserved c =

@@ -1,8 +1,4 @@
-use Rattle.std.proofs.Common.{◌≡◌, ◌++◌, take, map, Some}
-use Rattle.std.specs.Prelude.{filter}
-use Rattle.eco_ids.specs.Answer.{is_least_match}
-use Rattle.eco_entries.specs.Fillings.{HasSeen}
-use Rattle.eco_entries.specs.Seen.{AreApart}
+use Rattle.eco_entries.proofs.Common.{◌≡◌, ◌++◌, take, map, Some, filter, is_least_match, HasSeen, AreApart}
 use Rattle.eco_entries.proofs.fillings.add_new.Given as goal
 
 abbrev pub invariant-loop-id : goal.invariant-loop-id

@@ -1,4 +1,4 @@
-use Rattle.std.proofs.Common.{take}
+use Rattle.eco_entries.proofs.Common.{take}
 use Rattle.eco_entries.proofs.FirstMatch.{IsFirst}
 use Rattle.eco_entries.proofs.only_entry.only_match_of.Given as goal
 

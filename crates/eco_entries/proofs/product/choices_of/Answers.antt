@@ -1,6 +1,4 @@
-use Rattle.std.proofs.Common.{◌≡◌, drop, ◌-◌, ◌<◌, length, ap, sym, ◌∙◌, arith, rules}
-use Rattle.eco_ids.specs.Answer.{choices}
-use Rattle.eco_entries.specs.Answers.{asks}
+use Rattle.eco_entries.proofs.Common.{◌≡◌, drop, ◌-◌, ◌<◌, length, ap, sym, ◌∙◌, arith, rules, choices, asks}
 use Rattle.eco_entries.proofs.Only.{last_choices}
 use Rattle.eco_entries.proofs.product.choices_of.Goals as goal
 

@@ -1,6 +1,4 @@
-use Rattle.std.proofs.Common.{◌≡◌, ◌-◌, ◌≤◌, length, drop}
-use Rattle.eco_ids.specs.Answer.{choices}
-use Rattle.eco_entries.specs.Answers.{asks}
+use Rattle.eco_entries.proofs.Common.{◌≡◌, ◌-◌, ◌≤◌, length, drop, choices, asks}
 use Rattle.eco_entries.proofs.product.choices_of.Given as goal
 
 abbrev pub invariant-loop-left : goal.invariant-loop-left

@@ -1,7 +1,4 @@
-use Rattle.std.proofs.Common.{◌∙◌}
-use Rattle.std.proofs.lemmas.Result.{IfOk-weaker}
-use Rattle.eco_ids.specs.Answer.{choices}
-use Rattle.eco_entries.specs.Answers.{asks}
+use Rattle.eco_entries.proofs.Common.{◌∙◌, IfOk-weaker, choices, asks}
 use Rattle.eco_entries.proofs.Only.{only_start}
 use Rattle.eco_entries.proofs.product.find_only.Goals as goal
 

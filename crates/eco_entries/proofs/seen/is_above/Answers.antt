@@ -1,4 +1,4 @@
-use Rattle.std.proofs.Common.{◌≡◌, ◌-◌, sym, ◌∙◌, length, slice_get, Some, arith, rules}
+use Rattle.eco_entries.proofs.Common.{◌≡◌, ◌-◌, sym, ◌∙◌, length, slice_get, Some, arith, rules}
 use Rattle.eco_entries.proofs.SeenIds.{last_above}
 use Rattle.eco_entries.proofs.seen.is_above.Goals as goal
 

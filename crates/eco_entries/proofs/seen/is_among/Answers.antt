@@ -1,5 +1,4 @@
-use Rattle.std.proofs.Common.{◌∙◌}
-use Rattle.eco_ids.proofs.IdOrder.{ids_search_says}
+use Rattle.eco_entries.proofs.Common.{◌∙◌, ids_search_says}
 use Rattle.eco_entries.proofs.SeenIds.{found_says}
 use Rattle.eco_entries.proofs.seen.is_among.Goals as goal
 

@@ -1,6 +1,4 @@
-use Rattle.std.proofs.Common.{◌≡◌, ◌+◌, ◌++◌, ◌∷◌, [], ap, length, length-append, map, sym, ◌∙◌, arith}
-use Rattle.eco_ids.specs.Answer.{choices}
-use Rattle.eco_entries.specs.Answers.{asks}
+use Rattle.eco_entries.proofs.Common.{◌≡◌, ◌+◌, ◌++◌, ◌∷◌, [], ap, length, length-append, map, sym, ◌∙◌, arith, choices, asks}
 use Rattle.eco_entries.proofs.Only.{only_step, several_step}
 use Rattle.eco_entries.proofs.single.add_only.Goals as goal
 

@@ -1,6 +1,4 @@
-use Rattle.std.proofs.Common.{◌≡◌, ◌+◌, ◌++◌, length, drop, map}
-use Rattle.eco_ids.specs.Answer.{choices}
-use Rattle.eco_entries.specs.Answers.{asks}
+use Rattle.eco_entries.proofs.Common.{◌≡◌, ◌+◌, ◌++◌, length, drop, map, choices, asks}
 use Rattle.eco_entries.proofs.single.add_only.Given as goal
 
 abbrev pub invariant-loop-place : goal.invariant-loop-place

@@ -1,8 +1,4 @@
-use Rattle.std.proofs.Common.{Ok, ◌+◌, arith, subst, sym, take}
-use Rattle.std.proofs.lemmas.List.{take_all}
-use Rattle.std.proofs.lemmas.Result.{err_from_is_err_and}
-use Rattle.eco_steps.specs.Views.{action_view, actions_view}
-use Rattle.eco_formats.specs.Recording.{ReadsAction, ReadsActions}
+use Rattle.eco_formats.proofs.Common.{Ok, ◌+◌, arith, subst, sym, take, take_all, err_from_is_err_and, action_view, actions_view, ReadsAction, ReadsActions}
 use Rattle.eco_formats.proofs.Recorded.{one_more, one_refused, some_within}
 use Rattle.eco_formats.proofs.recording.read_actions.Goals as goal
 

@@ -1,6 +1,4 @@
-use Rattle.std.proofs.Common.{◌≡◌, ◌≤◌, Ok, length, take, vec_len, vec_capacity}
-use Rattle.eco_steps.specs.Views.{actions_view}
-use Rattle.eco_formats.specs.Recording.{ReadsActions}
+use Rattle.eco_formats.proofs.Common.{◌≡◌, ◌≤◌, Ok, length, take, vec_len, vec_capacity, actions_view, ReadsActions}
 use Rattle.eco_formats.proofs.recording.read_actions.Given as goal
 
 -- the actions so far were read, and there is room for the others

@@ -1,9 +1,5 @@
-use Rattle.std.proofs.Common.{Ok, refl, ap, subst}
-use Rattle.std.proofs.lemmas.List.{take_all}
-use Rattle.std.proofs.lemmas.Result.{err_from_is_err_and}
+use Rattle.eco_formats.proofs.Common.{Ok, refl, ap, subst, take_all, err_from_is_err_and, command_view, commands_view, ReadsCommand, ReadsCommands}
 use Rattle.eco_stages.specs.Commands.{command_of}
-use Rattle.eco_steps.specs.Views.{command_view, commands_view}
-use Rattle.eco_formats.specs.Recording.{ReadsCommand, ReadsCommands}
 use Rattle.eco_formats.proofs.Recorded.{one_more, one_refused, some_within, was_ok}
 use Rattle.eco_formats.proofs.recording.record_stage.Goals as goal
 

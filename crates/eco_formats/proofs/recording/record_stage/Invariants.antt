@@ -1,6 +1,4 @@
-use Rattle.std.proofs.Common.{Ok, take}
-use Rattle.eco_steps.specs.Views.{commands_view}
-use Rattle.eco_formats.specs.Recording.{ReadsCommands}
+use Rattle.eco_formats.proofs.Common.{Ok, take, commands_view, ReadsCommands}
 use Rattle.eco_formats.proofs.recording.record_stage.Given as goal
 
 -- the commands so far were read

@@ -1,8 +1,5 @@
-use Rattle.std.proofs.Common.{Ok, ◌+◌, ◌∙◌, ap, arith, flat_map, refl, subst, sym, take}
-use Rattle.std.proofs.lemmas.Result.{err_from_is_err_and}
-use Rattle.eco_steps.specs.Views.{commands_view, stages_view}
-use Rattle.eco_stages.specs.Merging.{all_commands}
-use Rattle.eco_formats.specs.Recording.{ReadsCommands}
+use Rattle.eco_formats.proofs.Common.{Ok, ◌+◌, ◌∙◌, ap, arith, flat_map, refl, subst, sym, take, err_from_is_err_and, commands_view, stages_view}
+use Rattle.eco_formats.proofs.Common.{all_commands, ReadsCommands}
 use Rattle.eco_formats.proofs.Recorded.{flat_more, some_within, stage_read, stage_refused}
 use Rattle.eco_formats.proofs.recording.record_stages.Goals as goal
 

@@ -1,7 +1,4 @@
-use Rattle.std.proofs.Common.{◌≡◌, ◌≤◌, Ok, length, take, flat_map, vec_len, vec_capacity}
-use Rattle.eco_steps.specs.Views.{stages_view}
-use Rattle.eco_stages.specs.Merging.{all_commands}
-use Rattle.eco_formats.specs.Recording.{ReadsCommands}
+use Rattle.eco_formats.proofs.Common.{◌≡◌, ◌≤◌, Ok, length, take, flat_map, vec_len, vec_capacity, stages_view, all_commands, ReadsCommands}
 use Rattle.eco_formats.proofs.recording.record_stages.Given as goal
 
 -- the stages so far were read, and there is room for the others

@@ -1,10 +1,6 @@
-use Rattle.std.proofs.Common.{◌≡◌, ◌<◌, ◌≤◌, flat_map, length, map, subst, sym, ap, ◌∙◌, arith}
+use Rattle.eco_frame.proofs.Common.{◌≡◌, ◌<◌, ◌≤◌, flat_map, length, map, subst, sym, ap, ◌∙◌, arith, length-map, IsBatch, IsOut}
+use Rattle.eco_frame.proofs.Common.{by_index, IsRecorded, pieces_at, pieces_in, piece_commands, piece_taken, seen_part, seen_piece, model_at, model_of}
 use Rattle.std.proofs.lemmas.List.Elements.{recursion_from_All}
-use Rattle.std.proofs.lemmas.List.{length-map}
-use Rattle.eco_workers.specs.Batches.{IsBatch, IsOut}
-use Rattle.eco_stages.specs.Taking.{by_index}
-use Rattle.eco_frame.specs.Pieces.{IsRecorded, pieces_at, pieces_in, piece_commands, piece_taken, seen_part, seen_piece}
-use Rattle.eco_frame.specs.Models.{model_at, model_of}
 use Rattle.eco_frame.proofs.Batched.{both_err, both_ok, out_seen, recorded}
 use Rattle.eco_frame.proofs.batch.record.Goals as goal
 

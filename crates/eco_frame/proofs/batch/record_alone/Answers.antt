@@ -1,8 +1,4 @@
-use Rattle.std.proofs.Common.{◌≡◌, ◌∷◌, ◌++◌, [], ap, subst, sym, ◌∙◌}
-use Rattle.std.proofs.lemmas.List.{append-nil}
-use Rattle.eco_workers.specs.Alone.{IsInTurn}
-use Rattle.eco_stages.specs.Taking.{by_index}
-use Rattle.eco_stages.specs.Merging.{all_commands}
+use Rattle.eco_frame.proofs.Common.{◌≡◌, ◌∷◌, ◌++◌, [], ap, subst, sym, ◌∙◌, append-nil, IsInTurn, by_index, all_commands}
 use Rattle.eco_frame.proofs.batch.record_alone.Goals as goal
 
 pub returns-clause-batch : goal.returns-clause-batch

@@ -1,6 +1,4 @@
-use Rattle.std.proofs.Common.{refl}
-use Rattle.std.proofs.lemmas.Result.{IfErr-weaker, IfOk-weaker}
-use Rattle.eco_stages.specs.Taking.{by_index}
+use Rattle.eco_frame.proofs.Common.{refl, IfErr-weaker, IfOk-weaker, by_index}
 use Rattle.eco_frame.proofs.Fresh.{as_batch, as_out}
 use Rattle.eco_frame.proofs.batch.record_pieces.Goals as goal
 

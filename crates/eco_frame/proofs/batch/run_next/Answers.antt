@@ -1,9 +1,5 @@
-use Rattle.std.proofs.Common.{◌≡◌, ◌+◌, Ok, inr, length, map, refl, sym, ap, ◌∙◌, subst}
-use Rattle.std.proofs.lemmas.Result.{err_from_is_err_and}
-use Rattle.eco_ids.specs.declared.refusal.Refusal.TheVariants.{NoMoreIds, OutOfMemory}
-use Rattle.eco_stages.specs.Merging.{all_commands}
-use Rattle.eco_world.specs.Merging.{Merges}
-use Rattle.eco_frame.specs.Models.{model_at, model_of}
+use Rattle.eco_frame.proofs.Common.{◌≡◌, ◌+◌, Ok, inr, length, map, refl, sym, ap, ◌∙◌, subst, err_from_is_err_and, NoMoreIds, OutOfMemory}
+use Rattle.eco_frame.proofs.Common.{all_commands, Merges, model_at, model_of}
 use Rattle.eco_frame.proofs.Merged.{has_run, merge_wanted}
 use Rattle.eco_frame.proofs.batch.run_next.Goals as goal
 

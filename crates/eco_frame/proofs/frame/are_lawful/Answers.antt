@@ -1,9 +1,5 @@
-use Rattle.std.proofs.Common.{◌++◌, ◌∷◌, [], List, ap, map, subst, sym, take, ◌∙◌}
-use Rattle.std.proofs.lemmas.List.{map_push, take_all, take_more}
-use Rattle.std.specs.List.{AllByRecursion}
-use Rattle.eco_bodies.specs.declared.systems.System.{System}
-use Rattle.eco_systems.specs.Systems.{IsLawfulSystem, SystemModel}
-use Rattle.eco_frame.specs.Models.{model_of}
+use Rattle.eco_frame.proofs.Common.{◌++◌, ◌∷◌, [], List, ap, map, subst, sym, take, ◌∙◌, map_push, take_all, take_more, AllByRecursion, System}
+use Rattle.eco_frame.proofs.Common.{IsLawfulSystem, SystemModel, model_of}
 use Rattle.eco_frame.proofs.frame.are_lawful.Goals as goal
 
 one_more : (xs : List SystemModel) (x : SystemModel) → AllByRecursion IsLawfulSystem xs → IsLawfulSystem x → AllByRecursion IsLawfulSystem (xs ++ x ∷ [])

@@ -1,7 +1,4 @@
-use Rattle.std.proofs.Common.{map, take}
-use Rattle.std.specs.List.{AllByRecursion}
-use Rattle.eco_systems.specs.Systems.{IsLawfulSystem}
-use Rattle.eco_frame.specs.Models.{model_of}
+use Rattle.eco_frame.proofs.Common.{map, take, AllByRecursion, IsLawfulSystem, model_of}
 use Rattle.eco_frame.proofs.frame.are_lawful.Given as goal
 
 -- those so far

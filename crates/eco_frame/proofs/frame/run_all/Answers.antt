@@ -1,13 +1,6 @@
-use Rattle.std.proofs.Common.{◌≡◌, ◌+◌, ◌<◌, ◌∷◌, ◌++◌, [], ℕ, Global, List, Some, Vec, length, length-append, map, option_map, slice_get}
-use Rattle.std.proofs.Common.{take, vec_capacity, vec_len, refl, sym}
-use Rattle.std.proofs.Common.{ap, ◌∙◌, subst, arith}
-use Rattle.std.specs.List.{All}
-use Rattle.std.proofs.lemmas.List.{map_push, take_more}
-use Rattle.std.proofs.lemmas.Result.{err_from_is_err_and}
-use Rattle.std.proofs.lemmas.Option.{slice_get-get_or, slice_get-map}
-use Rattle.eco_frame.specs.declared.progress.Progress.{Progress}
-use Rattle.eco_frame.specs.Models.{model_at, model_of}
-use Rattle.eco_frame.specs.Progresses.{HasRun, HaveRun}
+use Rattle.eco_frame.proofs.Common.{◌≡◌, ◌+◌, ◌<◌, ◌∷◌, ◌++◌, [], ℕ, Global, List, Some, Vec, length, length-append, map, option_map}
+use Rattle.eco_frame.proofs.Common.{slice_get, take, vec_capacity, vec_len, refl, sym, ap, ◌∙◌, subst, arith, All, map_push, take_more}
+use Rattle.eco_frame.proofs.Common.{err_from_is_err_and, slice_get-get_or, slice_get-map, Progress, model_at, model_of, HasRun, HaveRun}
 use Rattle.eco_frame.proofs.Turns.{none_run, run_more, run_stays}
 use Rattle.eco_frame.proofs.frame.run_all.Goals as goal
 

@@ -1,6 +1,4 @@
-use Rattle.std.proofs.Common.{◌≡◌, length, map, take, vec_capacity}
-use Rattle.eco_frame.specs.Models.{model_at, model_of}
-use Rattle.eco_frame.specs.Progresses.{HaveRun}
+use Rattle.eco_frame.proofs.Common.{◌≡◌, length, map, take, vec_capacity, model_at, model_of, HaveRun}
 use Rattle.eco_frame.proofs.frame.run_all.Given as goal
 
 -- the batches so far

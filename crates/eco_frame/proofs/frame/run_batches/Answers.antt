@@ -1,12 +1,5 @@
-use Rattle.std.proofs.Common.{Ok, Err, ap, inl, inr, length, map, refl, subst, sym, vec_len, ◌∙◌}
-use Rattle.std.proofs.lemmas.List.{length-map}
-use Rattle.std.specs.List.{AllByRecursion}
-use Rattle.eco_bodies.specs.declared.systems.System.{System}
-use Rattle.eco_systems.specs.Phases.{in_order, order_of}
-use Rattle.eco_systems.specs.Systems.{IsLawfulSystem, SystemModel}
-use Rattle.eco_frame.specs.Models.{model_of}
-use Rattle.eco_frame.specs.Stops.{IsNextOut, IsWhy}
-use Rattle.eco_frame.specs.declared.stop.FrameStop.{FrameStop}
+use Rattle.eco_frame.proofs.Common.{Ok, Err, ap, inl, inr, length, map, refl, subst, sym, vec_len, ◌∙◌, length-map, AllByRecursion, System, in_order}
+use Rattle.eco_frame.proofs.Common.{order_of, IsLawfulSystem, SystemModel, model_of, IsNextOut, IsWhy, FrameStop}
 use Rattle.eco_frame.proofs.Ran.{frame_by, stopped_frame, whole_frame}
 use Rattle.eco_frame.proofs.Within.{batches_within}
 use Rattle.eco_frame.proofs.frame.run_batches.Goals as goal

@@ -1,9 +1,4 @@
-use Rattle.std.proofs.Common.{map, refl}
-use Rattle.eco_ids.specs.declared.refusal.Refusal.TheVariants.{OutOfMemory}
-use Rattle.eco_bodies.specs.declared.systems.System.{System}
-use Rattle.eco_systems.specs.Phases.{in_order}
-use Rattle.eco_systems.specs.Systems.{SystemModel}
-use Rattle.eco_frame.specs.Models.{model_of}
+use Rattle.eco_frame.proofs.Common.{map, refl, OutOfMemory, System, in_order, SystemModel, model_of}
 use Rattle.eco_frame.proofs.Ran.{frame_stopped_at_once}
 use Rattle.eco_frame.proofs.frame.stop_at_once.Goals as goal
 

@@ -1,6 +1,4 @@
-use Rattle.std.proofs.Common.{◌+◌, ◌<◌, ◌++◌, drop, length, map, arith, ap, ◌∙◌}
-use Rattle.std.proofs.lemmas.List.{map_push}
-use Rattle.eco_frame.specs.Pieces.{pieces_in, seen_piece}
+use Rattle.eco_frame.proofs.Common.{◌+◌, ◌<◌, ◌++◌, drop, length, map, arith, ap, ◌∙◌, map_push, pieces_in, seen_piece}
 use Rattle.eco_frame.proofs.Cut.{piece_more}
 use Rattle.eco_frame.proofs.part.add_pieces.Goals as goal
 

@@ -1,5 +1,4 @@
-use Rattle.std.proofs.Common.{◌≡◌, ◌-◌, ◌≤◌, ◌++◌, drop, length, map}
-use Rattle.eco_frame.specs.Pieces.{pieces_in, seen_part, seen_piece}
+use Rattle.eco_frame.proofs.Common.{◌≡◌, ◌-◌, ◌≤◌, ◌++◌, drop, length, map, pieces_in, seen_part, seen_piece}
 use Rattle.eco_frame.proofs.part.add_pieces.Given as goal
 
 -- those of the rows so far

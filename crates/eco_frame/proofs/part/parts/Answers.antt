@@ -1,8 +1,6 @@
-use Rattle.std.proofs.Common.{rules, ◌≡◌, ◌++◌, ◌∷◌, [], flat_map, length, map, option_map, option_to_list, refl, sym, take, ap, ◌∙◌, get_or}
+use Rattle.eco_frame.proofs.Common.{rules, ◌≡◌, ◌++◌, ◌∷◌, [], flat_map, length, map, option_map, option_to_list, refl, sym, take, ap}
+use Rattle.eco_frame.proofs.Common.{◌∙◌, get_or, append-nil, map_push, take_all, take_more, slice_get_read, part_at, body_with_rows, seen_part}
 use Rattle.std.proofs.lemmas.Grind.{flat_map-append}
-use Rattle.std.proofs.lemmas.List.{append-nil, map_push, take_all, take_more}
-use Rattle.std.proofs.lemmas.Option.{slice_get_read}
-use Rattle.eco_frame.specs.Pieces.{part_at, body_with_rows, seen_part}
 use Rattle.eco_frame.proofs.part.parts.Goals as goal
 
 pub loop-place-preserved : goal.loop-place-preserved

@@ -1,5 +1,4 @@
-use Rattle.std.proofs.Common.{◌≡◌, flat_map, map, take}
-use Rattle.eco_frame.specs.Pieces.{part_at, seen_part}
+use Rattle.eco_frame.proofs.Common.{◌≡◌, flat_map, map, take, part_at, seen_part}
 use Rattle.eco_frame.proofs.part.parts.Given as goal
 
 -- those of the positions so far

@@ -1,6 +1,4 @@
-use Rattle.std.proofs.Common.{ap, flat_map, map, ◌∙◌}
-use Rattle.std.proofs.lemmas.List.{take_all}
-use Rattle.eco_frame.specs.Pieces.{pieces_in, seen_part, seen_piece}
+use Rattle.eco_frame.proofs.Common.{ap, flat_map, map, ◌∙◌, take_all, pieces_in, seen_part, seen_piece}
 use Rattle.eco_frame.proofs.Cut.{flat_more}
 use Rattle.eco_frame.proofs.part.pieces.Goals as goal
 

@@ -1,5 +1,4 @@
-use Rattle.std.proofs.Common.{◌≡◌, flat_map, map, take}
-use Rattle.eco_frame.specs.Pieces.{pieces_in, seen_part, seen_piece}
+use Rattle.eco_frame.proofs.Common.{◌≡◌, flat_map, map, take, pieces_in, seen_part, seen_piece}
 use Rattle.eco_frame.proofs.part.pieces.Given as goal
 
 -- those of the parts so far

@@ -1,8 +1,6 @@
-use Rattle.std.proofs.Common.{◌≡◌, ◌+◌, ◌-◌, ◌≤◌, ℕ, [], Some, drop, length, slice_get, take, ◌∙◌, refl, sym, subst, arith}
-use Rattle.std.proofs.lemmas.List.{append-nil, take_all}
-use Rattle.std.proofs.lemmas.Result.{err_from_is_err_and}
+use Rattle.eco_frame.proofs.Common.{◌≡◌, ◌+◌, ◌-◌, ◌≤◌, ℕ, [], Some, drop, length, slice_get, take, ◌∙◌, refl, sym, subst, arith}
+use Rattle.eco_frame.proofs.Common.{append-nil, take_all, err_from_is_err_and, AllTook}
 use Rattle.eco_frame.specs.Rows.{world_row}
-use Rattle.eco_bodies.specs.Taking.{AllTook}
 use Rattle.eco_frame.proofs.Between.{no_more, row_at}
 use Rattle.eco_frame.proofs.piece.record_between.Goals as goal
 

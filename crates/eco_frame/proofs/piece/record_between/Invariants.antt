@@ -1,5 +1,4 @@
-use Rattle.std.proofs.Common.{◌≡◌, ◌-◌, false, drop, take}
-use Rattle.eco_bodies.specs.Taking.{AllTook}
+use Rattle.eco_frame.proofs.Common.{◌≡◌, ◌-◌, false, drop, take, AllTook}
 use Rattle.eco_frame.proofs.piece.record_between.Given as goal
 
 -- the rows so far

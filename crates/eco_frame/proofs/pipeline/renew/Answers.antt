@@ -1,10 +1,5 @@
-use Rattle.std.proofs.Common.{map}
-use Rattle.std.proofs.lemmas.Result.{IfOk-weaker}
-use Rattle.eco_batches.specs.Outlines.{ArePlacedBatches}
+use Rattle.eco_frame.proofs.Common.{map, IfOk-weaker, ArePlacedBatches, System, SystemModel, ArePlaced, model_of}
 use Rattle.eco_batches.specs.Plans.{batches_in}
-use Rattle.eco_bodies.specs.declared.systems.System.{System}
-use Rattle.eco_systems.specs.Systems.{SystemModel}
-use Rattle.eco_frame.specs.Models.{ArePlaced, model_of}
 use Rattle.eco_frame.proofs.Placed.{placed_of}
 use Rattle.eco_frame.proofs.pipeline.renew.Goals as goal
 

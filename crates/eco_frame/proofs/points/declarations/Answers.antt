@@ -1,10 +1,5 @@
-use Rattle.std.proofs.Common.{◌++◌, ◌∷◌, [], sym, subst, take, ◌+◌}
-use Rattle.std.specs.List.{AllZip}
-use Rattle.std.proofs.lemmas.List.{take_all, take_more}
+use Rattle.eco_frame.proofs.Common.{◌++◌, ◌∷◌, [], sym, subst, take, ◌+◌, AllZip, take_all, take_more, Declared, System, Declares, model_of}
 use Rattle.eco_ids.proofs.Further.{zip_push}
-use Rattle.eco_batches.specs.declared.declaration.Declared.{Declared}
-use Rattle.eco_bodies.specs.declared.systems.System.{System}
-use Rattle.eco_frame.specs.Models.{Declares, model_of}
 use Rattle.eco_frame.proofs.points.declarations.Goals as goal
 
 pub loop-system-preserved : goal.loop-system-preserved

@@ -1,6 +1,4 @@
-use Rattle.std.proofs.Common.{take}
-use Rattle.std.specs.List.{AllZip}
-use Rattle.eco_frame.specs.Models.{Declares, model_of}
+use Rattle.eco_frame.proofs.Common.{take, AllZip, Declares, model_of}
 use Rattle.eco_frame.proofs.points.declarations.Given as goal
 
 abbrev pub invariant-loop-system : goal.invariant-loop-system

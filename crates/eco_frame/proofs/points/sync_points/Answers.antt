@@ -1,12 +1,6 @@
-use Rattle.std.proofs.Common.{map, subst}
-use Rattle.std.specs.List.{AllByRecursion, AllZip}
-use Rattle.std.proofs.lemmas.Result.{IfOk-weaker}
-use Rattle.eco_batches.specs.Outlines.{ArePlacedBatches}
-use Rattle.eco_batches.specs.declared.declaration.Declared.{Declared}
-use Rattle.eco_bodies.specs.declared.systems.System.{System}
-use Rattle.eco_frame.specs.Models.{ArePlaced, Declares, model_of}
+use Rattle.eco_frame.proofs.Common.{map, subst, AllByRecursion, AllZip, IfOk-weaker, ArePlacedBatches, Declared, System, ArePlaced, Declares, model_of}
+use Rattle.eco_frame.proofs.Common.{IsLawfulSystem, SystemModel}
 use Rattle.eco_frame.proofs.Placed.{placed_of}
-use Rattle.eco_systems.specs.Systems.{IsLawfulSystem, SystemModel}
 use Rattle.eco_frame.proofs.points.sync_points.Goals as goal
 
 pub returns-clause-batches : goal.returns-clause-batches

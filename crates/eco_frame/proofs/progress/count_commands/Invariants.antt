@@ -1,5 +1,4 @@
-use Rattle.std.proofs.Common.{◌≡◌, length, take}
-use Rattle.eco_stages.specs.Merging.{all_commands}
+use Rattle.eco_frame.proofs.Common.{◌≡◌, length, take, all_commands}
 use Rattle.eco_frame.proofs.progress.count_commands.Given as goal
 
 -- those of the stages so far

@@ -1,18 +1,12 @@
-use Rattle.eco_ids.proofs.Common.{◌≡◌, List, [], Ok, Err, sym, refl, ap, ◌∙◌, inl, inr}
-use Rattle.std.proofs.lemmas.Result.{err_from_is_err_and}
-use Rattle.eco_ids.specs.declared.refusal.Refusal.{Refusal}
-use Rattle.eco_query.specs.Queries.{QuerySlot}
-use Rattle.eco_grammar.specs.Readings.{slots_of_written}
-use Rattle.eco_scan.specs.Marks.{slots_from, some_of}
+use Rattle.eco_grammar.proofs.Common.{◌≡◌, List, [], Ok, Err, sym, refl, ap, ◌∙◌, inl, inr, err_from_is_err_and, Refusal, QuerySlot}
+use Rattle.eco_grammar.proofs.Common.{slots_of_written, slots_from, some_of, last_of, atom_view}
 use Rattle.eco_scan.specs.declared.point.Mark.TheVariants.{Other, Slot}
-use Rattle.eco_grammar.specs.LastTerms.{last_of}
-use Rattle.eco_grammar.proofs.Built.{some_of-more, standing_first, standing_at, standing_end, atom_proper, last_proper}
-use Rattle.eco_grammar.proofs.Built.{other_known, other_unknown, last_known, last_unknown, standing_left, not_same, not_begin}
+use Rattle.eco_grammar.proofs.Built.{some_of-more, standing_first, standing_at, standing_end, atom_proper, last_proper, other_known, other_unknown, last_known}
+use Rattle.eco_grammar.proofs.Built.{last_unknown, standing_left, not_same, not_begin}
 use Rattle.eco_grammar.proofs.Kept.{first_kept, id_kept, slot_kept, query_kept}
 use Rattle.eco_grammar.proofs.build.build_query.Goals.{in-Same, in-Begin, in-Other+in_ok-id-in-Other+in_ok-push-in-Other}
 use Rattle.eco_grammar.proofs.build.build_query.Goals.{in-Slot+in_ok-last-in-Slot+in_ok-add_slot-in-Slot}
 use Rattle.eco_grammar.proofs.build.build_query.Goals as goal
-use Rattle.eco_scan.specs.Views.{atom_view}
 
 pub returns-in_err-id-in-Other : goal.returns-in_err-id-in-Other
 returns-in_err-id-in-Other g c =

@@ -1,10 +1,7 @@
-use Rattle.eco_ids.proofs.Common.{◌≡◌, List, map, drop}
-use Rattle.eco_scan.specs.Grammar.{WrittenAtom}
-use Rattle.eco_query.specs.Queries.{slot_view}
+use Rattle.eco_grammar.proofs.Common.{◌≡◌, List, map, drop, WrittenAtom, slot_view, some_of}
 use Rattle.eco_grammar.proofs.Built.{Standing}
 use Rattle.eco_grammar.proofs.Kept.{InRange}
 use Rattle.eco_grammar.proofs.build.build_query.Given as goal
-use Rattle.eco_scan.specs.Marks.{some_of}
 
 -- the slots and the alternatives so far are made, and are in range
 abbrev pub invariant-loop-mark : goal.invariant-loop-mark

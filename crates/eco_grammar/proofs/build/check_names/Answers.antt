@@ -1,14 +1,9 @@
-use Rattle.eco_ids.proofs.Common.{◌≡◌, [], Err, sym, refl, ap, ◌∙◌}
-use Rattle.std.proofs.lemmas.Result.{err_from_is_err_and}
-use Rattle.eco_grammar.specs.Readings.{slots_of_written}
-use Rattle.eco_scan.specs.Marks.{slots_from}
+use Rattle.eco_grammar.proofs.Common.{◌≡◌, [], Err, sym, refl, ap, ◌∙◌, err_from_is_err_and, slots_of_written, slots_from, last_of, atom_view}
 use Rattle.eco_scan.specs.declared.point.Mark.TheVariants.{Other, Slot}
-use Rattle.eco_grammar.specs.LastTerms.{last_of}
-use Rattle.eco_grammar.proofs.Built.{some_of-more, atom_proper, last_proper}
-use Rattle.eco_grammar.proofs.Built.{standing_first, standing_at, other_known, other_unknown, last_known, last_unknown, not_same, not_begin}
+use Rattle.eco_grammar.proofs.Built.{some_of-more, atom_proper, last_proper, standing_first, standing_at, other_known, other_unknown, last_known, last_unknown}
+use Rattle.eco_grammar.proofs.Built.{not_same, not_begin}
 use Rattle.eco_grammar.proofs.build.check_names.Goals.{in-Same, in-Begin, in-Other+in_ok-id_of_atom-in-Other, in-Slot+in_ok-last_term-in-Slot}
 use Rattle.eco_grammar.proofs.build.check_names.Goals as goal
-use Rattle.eco_scan.specs.Views.{atom_view}
 
 pub loop-mark-init : goal.loop-mark-init
 loop-mark-init g c = ([], [], [], refl, standing_first _ c.args.marks.now c.requires.whole c.requires.proper)

@@ -1,10 +1,6 @@
-use Rattle.eco_ids.proofs.Common.{◌≡◌, List, drop}
-use Rattle.eco_ids.specs.declared.id.Id.{Id}
-use Rattle.eco_scan.specs.Grammar.{WrittenAtom}
-use Rattle.eco_query.specs.Queries.{QuerySlot}
+use Rattle.eco_grammar.proofs.Common.{◌≡◌, List, drop, Id, WrittenAtom, QuerySlot, some_of}
 use Rattle.eco_grammar.proofs.Built.{Standing}
 use Rattle.eco_grammar.proofs.build.check_names.Given as goal
-use Rattle.eco_scan.specs.Marks.{some_of}
 
 -- all names so far are known
 abbrev pub invariant-loop-mark : goal.invariant-loop-mark

@@ -1,5 +1,4 @@
-use Rattle.eco_ids.proofs.Common.{◌≡◌, drop, list_any}
-use Rattle.eco_grammar.specs.LastTerms.{ends_positive}
+use Rattle.eco_grammar.proofs.Common.{◌≡◌, drop, list_any, ends_positive}
 use Rattle.eco_grammar.proofs.build.has_positive.Given as goal
 
 -- no atom so far asks for something that is there

@@ -1,4 +1,4 @@
-use Rattle.eco_ids.proofs.Common.{arith, common_steps}
+use Rattle.eco_grammar.proofs.Common.{arith, common_steps}
 use Rattle.eco_grammar.proofs.Built.{wildcard_found, wildcard_none}
 use Rattle.eco_grammar.proofs.build.misplaces_wildcard.Goals as goal
 

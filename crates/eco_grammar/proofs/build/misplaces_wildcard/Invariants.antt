@@ -1,4 +1,4 @@
-use Rattle.eco_ids.proofs.Common.{◌≡◌, false, drop}
+use Rattle.eco_grammar.proofs.Common.{◌≡◌, false, drop}
 use Rattle.eco_grammar.proofs.Built.{misplaced}
 use Rattle.eco_grammar.proofs.build.misplaces_wildcard.Given as goal
 

@@ -1,5 +1,4 @@
-use Rattle.eco_scan.specs.Grammar.{SpellsId, SpellsQuery, SpellsRef}
-use Rattle.eco_grammar.specs.Readings.{entity_of_placed, id_of, query_of}
+use Rattle.eco_grammar.proofs.Common.{SpellsId, SpellsQuery, SpellsRef, entity_of_placed, id_of, query_of}
 use Rattle.eco_grammar.proofs.Spelled.{reads_once}
 use Rattle.eco_grammar.proofs.laws.texts_read_once.Goals as goal
 

@@ -1,7 +1,4 @@
-use Rattle.eco_ids.proofs.Common.{refl, inl, inr}
-use Rattle.eco_scan.specs.Faults.{IsFault, IsSpelled}
-use Rattle.eco_scan.specs.Grammar.{SpellsId}
-use Rattle.eco_scan.specs.Views.{atom_view}
+use Rattle.eco_grammar.proofs.Common.{refl, inl, inr, IsFault, IsSpelled, SpellsId, atom_view}
 use Rattle.eco_grammar.proofs.Spelled.{id_proper}
 use Rattle.eco_grammar.proofs.read.read_id.Goals as goal
 

@@ -1,7 +1,4 @@
-use Rattle.eco_ids.proofs.Common.{refl, subst, inl, inr, Some}
-use Rattle.eco_scan.specs.Faults.{IsFault, IsSpelled}
-use Rattle.eco_scan.specs.Grammar.{SpellsQuery}
-use Rattle.eco_scan.specs.Marks.{HoldsSlots}
+use Rattle.eco_grammar.proofs.Common.{refl, subst, inl, inr, Some, IsFault, IsSpelled, SpellsQuery, HoldsSlots}
 use Rattle.eco_grammar.proofs.Queried.{held_answered, held_few, held_over, held_proper}
 use Rattle.eco_grammar.proofs.read.read_query.Goals as goal
 

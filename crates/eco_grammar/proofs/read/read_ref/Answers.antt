@@ -1,10 +1,7 @@
-use Rattle.eco_ids.proofs.Common.{◌≡◌, refl, sym, ap, ◌∙◌, subst, inl, inr}
-use Rattle.eco_scan.specs.Faults.{IsFault, IsSpelled}
-use Rattle.eco_scan.specs.Grammar.{PlacedReference, SpellsRef, named, single}
-use Rattle.eco_scan.specs.Views.{part_view}
-use Rattle.eco_grammar.specs.Proper.{IsProperPart}
-use Rattle.eco_grammar.specs.Readings as reading
+use Rattle.eco_grammar.proofs.Common.{◌≡◌, refl, sym, ap, ◌∙◌, subst, inl, inr, IsFault, IsSpelled, PlacedReference, SpellsRef, named, single}
+use Rattle.eco_grammar.proofs.Common.{part_view, IsProperPart}
 use Rattle.eco_grammar.proofs.Spelled.{id_proper}
+use Rattle.eco_grammar.specs.Readings as reading
 use Rattle.eco_grammar.proofs.read.read_ref.Goals as goal
 
 pub entity_of_part-requires : goal.entity_of_part-requires

@@ -1,4 +1,4 @@
-use Rattle.eco_ids.proofs.Common.{IsOk, Ok, Err, Result, MatchResult, refl, arith, common_steps}
+use Rattle.eco_grammar.proofs.Common.{IsOk, Ok, Err, Result, MatchResult, refl, arith, common_steps}
 use Rattle.eco_grammar.proofs.Spelled.{name_utf8}
 use Rattle.eco_grammar.proofs.resolve.reference_entity.Goals as goal
 

@@ -1,5 +1,4 @@
-use Rattle.std.proofs.Common.{◌∙◌, ◌∷◌, [], arith}
-use Rattle.std.proofs.lemmas.List.{length-append}
+use Rattle.eco_index.proofs.Common.{◌∙◌, ◌∷◌, [], arith, length-append}
 use Rattle.eco_index.proofs.EdgeLists.{cover_edges}
 use Rattle.eco_index.proofs.edges.cover.Goals as goal
 

@@ -1,5 +1,4 @@
-use Rattle.std.proofs.Common.{length, ◌-◌, ◌≤◌}
-use Rattle.eco_index.specs.Edges.{SameEdges}
+use Rattle.eco_index.proofs.Common.{length, ◌-◌, ◌≤◌, SameEdges}
 use Rattle.eco_index.proofs.edges.cover.Given as goal
 
 abbrev pub invariant-loop-alloc : goal.invariant-loop-alloc

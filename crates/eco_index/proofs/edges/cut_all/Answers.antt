@@ -1,7 +1,4 @@
-use Rattle.std.proofs.lemmas.List.{length-set}
-use Rattle.std.proofs.Common.{arith, ap, sym, ◌∙◌, cond, None, get_or, set}
-use Rattle.std.specs.HashMap.{get}
-use Rattle.eco_index.specs.Edges.{edge, same_id, leads_to}
+use Rattle.eco_index.proofs.Common.{length-set, arith, ap, sym, ◌∙◌, cond, None, get_or, set, get, edge, same_id, leads_to}
 use Rattle.eco_index.proofs.EdgeLists.{cut_bare, cut_edges, cut_empty, cut_past, emptied_edges}
 use Rattle.eco_index.proofs.edges.cut_all.Goals as goal
 

@@ -1,4 +1,4 @@
-use Rattle.std.proofs.Common.{arith}
+use Rattle.eco_index.proofs.Common.{arith}
 use Rattle.eco_index.proofs.Sweeping.{swept_all}
 use Rattle.eco_index.proofs.edges.keep_in_each.Goals as goal
 

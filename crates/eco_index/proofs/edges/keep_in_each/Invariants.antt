@@ -1,7 +1,4 @@
-use Rattle.std.proofs.Common.{◌≡◌, ℕ, length, cond}
-use Rattle.std.specs.Prelude.{nat_lt}
-use Rattle.eco_ids.specs.declared.id.Id.{Id}
-use Rattle.eco_index.specs.Edges.{edge}
+use Rattle.eco_index.proofs.Common.{◌≡◌, ℕ, length, cond, nat_lt, Id, edge}
 use Rattle.eco_index.proofs.Sweeping.{swept_edge}
 use Rattle.eco_index.proofs.edges.keep_in_each.Given as goal
 

@@ -1,8 +1,4 @@
-use Rattle.std.proofs.Common.{rules, cond, None, sym, ap, ◌∙◌}
-use Rattle.std.specs.HashMap.{get}
-use Rattle.std.proofs.lemmas.Map.Made.{filter_same_pairs}
-use Rattle.eco_ids.proofs.SameIds.{id_eq-Decides}
-use Rattle.eco_index.specs.Edges.{same_id}
+use Rattle.eco_index.proofs.Common.{rules, cond, None, sym, ap, ◌∙◌, get, filter_same_pairs, id_eq-Decides, same_id}
 use Rattle.eco_index.specs.Sweeping.{kept_if}
 use Rattle.eco_index.proofs.Sweeping.{kept_values}
 use Rattle.eco_index.proofs.edges.keep_own.Goals as goal

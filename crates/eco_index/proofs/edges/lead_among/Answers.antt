@@ -1,7 +1,4 @@
-use Rattle.std.proofs.Common.{◌≡◌, ◌+◌, suc, arith, sym, ap, ◌∙◌, option_map}
-use Rattle.std.specs.Map.Iter.{deref_pair}
-use Rattle.eco_ids.specs.OrderLaws.{id_ties}
-use Rattle.eco_index.specs.Edges.{same_id}
+use Rattle.eco_index.proofs.Common.{◌≡◌, ◌+◌, suc, arith, sym, ap, ◌∙◌, option_map, deref_pair, id_ties, same_id}
 use Rattle.eco_index.proofs.EdgeLists.{lookup_here, lookup_past}
 use Rattle.eco_index.proofs.edges.lead_among.Goals as goal
 

@@ -1,6 +1,4 @@
-use Rattle.std.proofs.Common.{Some, cond, ap, ◌∙◌}
-use Rattle.eco_ids.proofs.Results.{err_says}
-use Rattle.eco_index.specs.Edges.{same_id}
+use Rattle.eco_index.proofs.Common.{Some, cond, ap, ◌∙◌, err_says, same_id}
 use Rattle.eco_index.proofs.EdgeLists.{put_edges, at_slot, stayed_edges}
 use Rattle.eco_index.proofs.edges.put.Goals as goal
 

@@ -1,5 +1,4 @@
-use Rattle.std.proofs.Common.{None, cond, ap, ◌∙◌, arith}
-use Rattle.eco_index.specs.Edges.{same_id}
+use Rattle.eco_index.proofs.Common.{None, cond, ap, ◌∙◌, arith, same_id}
 use Rattle.eco_index.proofs.EdgeLists.{put_edges, at_slot, take_past}
 use Rattle.eco_index.proofs.edges.take.Goals as goal
 

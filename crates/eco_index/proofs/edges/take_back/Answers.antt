@@ -1,6 +1,4 @@
-use Rattle.std.proofs.Common.{ap, ◌∙◌}
-use Rattle.std.specs.Map.{lookup}
-use Rattle.eco_index.specs.Edges.{same_id}
+use Rattle.eco_index.proofs.Common.{ap, ◌∙◌, lookup, same_id}
 use Rattle.eco_index.proofs.EdgeLists.{back_more, popped}
 use Rattle.eco_index.proofs.edges.take_back.Goals as goal
 

@@ -1,7 +1,4 @@
-use Rattle.std.proofs.Common.{◌≡◌, ℕ, length, None, cond}
-use Rattle.std.specs.HashMap.{get}
-use Rattle.eco_ids.specs.declared.id.Id.{Id}
-use Rattle.eco_index.specs.Edges.{edge, same_id, leads_to}
+use Rattle.eco_index.proofs.Common.{◌≡◌, ℕ, length, None, cond, get, Id, edge, same_id, leads_to}
 use Rattle.eco_index.proofs.edges.take_back.Given as goal
 
 abbrev pub invariant-loop-id : goal.invariant-loop-id

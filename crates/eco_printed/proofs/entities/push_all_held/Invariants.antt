@@ -1,5 +1,4 @@
-use Rattle.std.proofs.Common.{◌≡◌, ◌++◌, take, flat_map, string_bytes}
-use Rattle.eco_printed.specs.Printed.{held_line}
+use Rattle.eco_printed.proofs.Common.{◌≡◌, ◌++◌, take, flat_map, string_bytes, held_line}
 use Rattle.eco_printed.proofs.entities.push_all_held.Given as goal
 
 -- the lines of the ids so far

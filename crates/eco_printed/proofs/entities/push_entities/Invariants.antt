@@ -1,5 +1,4 @@
-use Rattle.std.proofs.Common.{◌≡◌, ◌++◌, take, flat_map, string_bytes}
-use Rattle.eco_printed.specs.Printed.{entity_lines}
+use Rattle.eco_printed.proofs.Common.{◌≡◌, ◌++◌, take, flat_map, string_bytes, entity_lines}
 use Rattle.eco_printed.proofs.entities.push_entities.Given as goal
 
 -- the lines of the entities so far

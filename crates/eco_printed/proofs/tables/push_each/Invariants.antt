@@ -1,6 +1,4 @@
-use Rattle.std.proofs.Common.{◌≡◌, ◌++◌, take, flat_map, string_bytes}
-use Rattle.eco_printed.specs.Printed.{table_lines}
-use Rattle.eco_world.specs.Layouts.{listed_of}
+use Rattle.eco_printed.proofs.Common.{◌≡◌, ◌++◌, take, flat_map, string_bytes, table_lines, listed_of}
 use Rattle.eco_printed.proofs.tables.push_each.Given as goal
 
 -- the lines of the tables so far

@@ -1,5 +1,4 @@
-use Rattle.std.proofs.Common.{◌≡◌, ◌++◌, take, flat_map, string_bytes}
-use Rattle.eco_printed.specs.Printed.{id_line}
+use Rattle.eco_printed.proofs.Common.{◌≡◌, ◌++◌, take, flat_map, string_bytes, id_line}
 use Rattle.eco_printed.proofs.tables.push_ids.Given as goal
 
 -- the lines of the ids so far

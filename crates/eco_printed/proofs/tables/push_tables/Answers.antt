@@ -1,7 +1,5 @@
-use Rattle.std.proofs.Common.{◌≡◌, ◌++◌, OnOk, subst, sym, string_bytes}
+use Rattle.eco_printed.proofs.Common.{◌≡◌, ◌++◌, OnOk, subst, sym, string_bytes, table_lines, listed_of}
 use Rattle.std.proofs.lemmas.List.Folds.{flat_map-map}
-use Rattle.eco_printed.specs.Printed.{table_lines}
-use Rattle.eco_world.specs.Layouts.{listed_of}
 use Rattle.eco_printed.proofs.tables.push_tables.Goals as goal
 
 pub returns : goal.returns

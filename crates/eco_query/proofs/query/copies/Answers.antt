@@ -1,6 +1,4 @@
-use Rattle.eco_ids.proofs.Common.{map, ap, ◌∙◌, take_all}
-use Rattle.eco_ids.proofs.Further.{copies_further}
-use Rattle.eco_query.specs.Queries.{slot_view}
+use Rattle.eco_query.proofs.Common.{map, ap, ◌∙◌, take_all, copies_further, slot_view}
 use Rattle.eco_query.proofs.query.copies.Goals as goal
 
 pub loop-slot-preserved : goal.loop-slot-preserved

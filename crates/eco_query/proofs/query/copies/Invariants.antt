@@ -1,5 +1,4 @@
-use Rattle.eco_ids.proofs.Common.{◌≡◌, take, map}
-use Rattle.eco_query.specs.Queries.{slot_view}
+use Rattle.eco_query.proofs.Common.{◌≡◌, take, map, slot_view}
 use Rattle.eco_query.proofs.query.copies.Given as goal
 
 -- the slots so far are copied

@@ -1,7 +1,4 @@
-use Rattle.eco_ids.proofs.Common.{flat_map, ap, ◌∙◌, take_all}
-use Rattle.eco_ids.proofs.Further.{flat_map_further}
-use Rattle.eco_query.specs.Queries.{patterns_of, term_view}
-use Rattle.eco_query.specs.declared.slot.Slot.{Slot}
+use Rattle.eco_query.proofs.Common.{flat_map, ap, ◌∙◌, take_all, flat_map_further, patterns_of, term_view, Slot}
 use Rattle.eco_query.proofs.query.patterns_read.Goals as goal
 
 pub loop-slot-preserved : goal.loop-slot-preserved

@@ -1,5 +1,4 @@
-use Rattle.eco_ids.proofs.Common.{◌≡◌, take, flat_map}
-use Rattle.eco_query.specs.Queries.{term_view, patterns_of}
+use Rattle.eco_query.proofs.Common.{◌≡◌, take, flat_map, term_view, patterns_of}
 use Rattle.eco_query.proofs.query.patterns_read.Given as goal
 
 abbrev pub invariant-loop-slot : goal.invariant-loop-slot

@@ -1,6 +1,5 @@
-use Rattle.eco_ids.proofs.Common.{◌++◌, map, take, ap, sym, ◌∙◌, refl, take_all}
+use Rattle.eco_query.proofs.Common.{◌++◌, map, take, ap, sym, ◌∙◌, refl, take_all, map_further}
 use Rattle.eco_ids.proofs.Results.{err_says}
-use Rattle.eco_ids.proofs.Further.{map_further}
 use Rattle.eco_query.specs.Queries as queries
 use Rattle.eco_query.proofs.term.add_exactly.Goals as goal
 

@@ -1,4 +1,4 @@
-use Rattle.eco_ids.proofs.Common.{◌≡◌, ◌++◌, map, take}
+use Rattle.eco_query.proofs.Common.{◌≡◌, ◌++◌, map, take}
 use Rattle.eco_query.specs.Queries as queries
 use Rattle.eco_query.proofs.term.add_exactly.Given as goal
 

@@ -1,4 +1,4 @@
-use Rattle.eco_ids.proofs.Common.{◌∙◌}
+use Rattle.eco_scan.proofs.Common.{◌∙◌}
 use Rattle.eco_scan.proofs.Fronts.{starts_prefix}
 use Rattle.eco_scan.proofs.inside.begins.Goals as goal
 

@@ -1,8 +1,6 @@
-use Rattle.eco_ids.proofs.Common.{[], sym, refl, arith, rules, common_steps}
+use Rattle.eco_scan.proofs.Common.{[], sym, refl, arith, rules, common_steps, point_view, marked, before_view, atom_view}
 use Rattle.eco_scan.proofs.Loops.{reached_more, reached_stuck, reached_end, reached_atom}
-use Rattle.eco_scan.specs.Reader.Points.{point_view, marked, before_view}
 use Rattle.eco_scan.proofs.scan.scan_atom.Goals as goal
-use Rattle.eco_scan.specs.Views.{atom_view}
 
 pub loop-at-init : goal.loop-at-init
 loop-at-init c = record { run = (record { slots = []; others = [] }, refl); within = search rules; begun = tt }

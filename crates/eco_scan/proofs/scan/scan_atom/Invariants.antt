@@ -1,7 +1,5 @@
-use Rattle.eco_ids.proofs.Common.{◌-◌, ◌≤◌, [], length}
+use Rattle.eco_scan.proofs.Common.{◌-◌, ◌≤◌, [], length, Draft, IsBegunAt, point_view, spot_view, Reached}
 use Rattle.eco_scan.specs.Reader.Machine as machine
-use Rattle.eco_scan.specs.Reader.Points.{Draft, IsBegunAt, point_view, spot_view}
-use Rattle.eco_scan.specs.Reader.Machine.{Reached}
 use Rattle.eco_scan.proofs.scan.scan_atom.Given as goal
 
 -- the machine has read the bytes so far, whatever was put down

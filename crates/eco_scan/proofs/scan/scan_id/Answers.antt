@@ -1,5 +1,5 @@
+use Rattle.eco_scan.proofs.Common.{atom_view}
 use Rattle.std.proofs.lemmas.Result.{IfErr-weaker, IfOk-weaker}
-use Rattle.eco_scan.specs.Views.{atom_view}
 use Rattle.eco_scan.proofs.Spelled.{id_ended, id_fault}
 use Rattle.eco_scan.proofs.scan.scan_id.Goals as goal
 

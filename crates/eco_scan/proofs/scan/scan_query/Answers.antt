@@ -1,6 +1,4 @@
-use Rattle.eco_ids.proofs.Common.{false, sym, refl, arith, rules}
-use Rattle.eco_scan.specs.Reader.Machine.{query_start}
-use Rattle.eco_scan.specs.Reader.Points.{point_view, marked, is_bare}
+use Rattle.eco_scan.proofs.Common.{false, sym, refl, arith, rules, query_start, point_view, marked, is_bare}
 use Rattle.eco_scan.specs.declared.point.Mark.TheVariants.{Slot}
 use Rattle.eco_scan.proofs.Loops.{reached_more, reached_stuck, reached_end, reached_all}
 use Rattle.eco_scan.proofs.Stored.{nothing_read, put_holds, held_slots, HoldsDraft}

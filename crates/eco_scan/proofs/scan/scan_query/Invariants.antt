@@ -1,6 +1,4 @@
-use Rattle.eco_ids.proofs.Common.{◌≡◌, ◌-◌, ◌≤◌, true, [], length}
-use Rattle.eco_scan.specs.Reader.Machine.{query_start, Reached}
-use Rattle.eco_scan.specs.Reader.Points.{Draft, IsBegunAt, point_view, is_bare}
+use Rattle.eco_scan.proofs.Common.{◌≡◌, ◌-◌, ◌≤◌, true, [], length, query_start, Reached, Draft, IsBegunAt, point_view, is_bare}
 use Rattle.eco_scan.proofs.Stored.{HoldsDraft}
 use Rattle.eco_scan.proofs.scan.scan_query.Given as goal
 

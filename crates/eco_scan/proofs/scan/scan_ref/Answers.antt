@@ -1,7 +1,4 @@
-use Rattle.eco_ids.proofs.Common.{◌≡◌}
-use Rattle.eco_scan.specs.Grammar.{single, named}
-use Rattle.eco_scan.specs.Reader.Machine.{EndsWith, ref_start}
-use Rattle.eco_scan.specs.Views.{part_view}
+use Rattle.eco_scan.proofs.Common.{◌≡◌, single, named, EndsWith, ref_start, part_view}
 use Rattle.eco_scan.proofs.Spelled.{ref_ended, ref_fault}
 use Rattle.eco_scan.proofs.scan.scan_ref.Goals as goal
 

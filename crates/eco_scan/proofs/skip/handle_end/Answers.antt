@@ -1,4 +1,4 @@
-use Rattle.eco_ids.proofs.Common.{rules}
+use Rattle.eco_scan.proofs.Common.{rules}
 use Rattle.eco_scan.proofs.Skipped.{hash_more, dot_more, generation_more}
 use Rattle.eco_scan.proofs.skip.handle_end.Goals as goal
 

@@ -1,6 +1,5 @@
-use Rattle.eco_ids.proofs.Common.{ℕ, ◌-◌, ◌≤◌, length}
+use Rattle.eco_scan.proofs.Common.{ℕ, ◌-◌, ◌≤◌, length, Reached}
 use Rattle.eco_scan.specs.Reader.Machine as machine
-use Rattle.eco_scan.specs.Reader.Machine.{Reached}
 use Rattle.eco_scan.proofs.skip.index_end.Given as goal
 
 -- the machine stays in the index

@@ -1,4 +1,4 @@
-use Rattle.eco_ids.proofs.Common.{◌≡◌, true, slice_index, arith, rules, may_follow}
+use Rattle.eco_scan.proofs.Common.{◌≡◌, true, slice_index, arith, rules, may_follow}
 use Rattle.eco_scan.proofs.Skipped.{name_more}
 use Rattle.eco_scan.proofs.skip.name_end.Goals as goal
 

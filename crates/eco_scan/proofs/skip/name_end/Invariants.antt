@@ -1,6 +1,5 @@
-use Rattle.eco_ids.proofs.Common.{◌-◌, ◌≤◌, length, slice_range}
+use Rattle.eco_scan.proofs.Common.{◌-◌, ◌≤◌, length, slice_range, Reached}
 use Rattle.eco_scan.specs.Reader.Machine as machine
-use Rattle.eco_scan.specs.Reader.Machine.{Reached}
 use Rattle.eco_scan.proofs.skip.name_end.Given as goal
 
 -- the machine stays in the name

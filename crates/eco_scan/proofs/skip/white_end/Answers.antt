@@ -1,5 +1,4 @@
-use Rattle.eco_ids.proofs.Common.{◌≡◌, true, slice_index, rules}
-use Rattle.eco_scan.specs.Tokens.{is_white}
+use Rattle.eco_scan.proofs.Common.{◌≡◌, true, slice_index, rules, is_white}
 use Rattle.eco_scan.proofs.Skipped.{white_more}
 use Rattle.eco_scan.proofs.skip.white_end.Goals as goal
 

@@ -1,6 +1,5 @@
-use Rattle.eco_ids.proofs.Common.{◌-◌, ◌≤◌, length}
+use Rattle.eco_scan.proofs.Common.{◌-◌, ◌≤◌, length, Reached}
 use Rattle.eco_scan.specs.Reader.Machine as machine
-use Rattle.eco_scan.specs.Reader.Machine.{Reached}
 use Rattle.eco_scan.proofs.skip.white_end.Given as goal
 
 -- the machine stays between tokens

@@ -1,5 +1,4 @@
-use Rattle.std.proofs.Common.{Ok, Err, refl}
-use Rattle.std.proofs.lemmas.Result.{err_from_is_err_and}
+use Rattle.eco_script.proofs.Common.{Ok, Err, refl, err_from_is_err_and}
 use Rattle.eco_formats.specs.Changes.{named_command}
 use Rattle.eco_script.proofs.making.make_change.Goals as goal
 

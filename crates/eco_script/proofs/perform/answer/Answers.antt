@@ -1,6 +1,4 @@
-use Rattle.std.proofs.Common.{refl, subst}
-use Rattle.eco_steps.specs.Steps.{KeepsTo}
-use Rattle.eco_steps.specs.Views.{step_view}
+use Rattle.eco_script.proofs.Common.{refl, subst, KeepsTo, step_view}
 use Rattle.eco_script.proofs.perform.answer.Goals as goal
 
 pub component-requires : goal.component-requires

@@ -1,4 +1,4 @@
-use Rattle.std.proofs.Common.{Ok, Err}
+use Rattle.eco_script.proofs.Common.{Ok, Err}
 use Rattle.eco_script.proofs.Declared.{frame_runs}
 use Rattle.eco_script.proofs.perform.frame.Goals as goal
 

@@ -1,6 +1,4 @@
-use Rattle.std.proofs.Common.{Ok, Err, refl}
-use Rattle.std.proofs.lemmas.Result.{err_from_is_err_and}
-use Rattle.eco_steps.specs.Views.{stages_view}
+use Rattle.eco_script.proofs.Common.{Ok, Err, refl, err_from_is_err_and, stages_view}
 use Rattle.eco_stages.specs.Merging.{all_commands}
 use Rattle.eco_script.proofs.MergeSteps.{made_merge, refused_merge}
 use Rattle.eco_script.proofs.perform.merge.Goals as goal

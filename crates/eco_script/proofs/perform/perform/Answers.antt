@@ -1,6 +1,5 @@
-use Rattle.eco_steps.specs.Views.{step_view}
+use Rattle.eco_script.proofs.Common.{step_view, reached}
 use Rattle.eco_script.specs.Answers.{answer_view}
-use Rattle.eco_script.specs.Systems.{reached}
 use Rattle.eco_script.proofs.Editions.{step_keeps}
 use Rattle.eco_script.proofs.perform.perform.Goals as goal
 

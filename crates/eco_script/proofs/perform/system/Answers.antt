@@ -1,6 +1,4 @@
-use Rattle.std.proofs.Common.{refl}
-use Rattle.std.proofs.lemmas.Result.{err_from_is_err_and}
-use Rattle.eco_steps.specs.Views.{actions_view}
+use Rattle.eco_script.proofs.Common.{refl, err_from_is_err_and, actions_view}
 use Rattle.eco_script.proofs.Declared.{added_system, refused_body, refused_name, refused_query}
 use Rattle.eco_script.proofs.perform.system.Goals as goal
 

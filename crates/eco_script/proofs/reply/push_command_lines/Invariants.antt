@@ -1,5 +1,4 @@
-use Rattle.std.proofs.Common.{◌≡◌, ◌+◌, ◌++◌, length, string_bytes}
-use Rattle.eco_script.specs.Text.{command_lines}
+use Rattle.eco_script.proofs.Common.{◌≡◌, ◌+◌, ◌++◌, length, string_bytes, command_lines}
 use Rattle.eco_script.proofs.reply.push_command_lines.Given as goal
 
 -- with the lines of the commands that are left it is all lines, and they are numbered on

@@ -1,5 +1,4 @@
-use Rattle.std.proofs.Common.{◌≡◌, ◌++◌, take, flat_map, string_bytes}
-use Rattle.eco_formats.specs.Lines.{line_of}
+use Rattle.eco_script.proofs.Common.{◌≡◌, ◌++◌, take, flat_map, string_bytes, line_of}
 use Rattle.eco_script.proofs.reply.push_entity_lines.Given as goal
 
 -- the lines of the entities so far

@@ -1,7 +1,4 @@
-use Rattle.std.proofs.Common.{arith, ◌∙◌, ap, sym, length, subst, string_bytes, ◌≡◌, ◌+◌, ◌++◌}
-use Rattle.std.proofs.lemmas.List.{take_all}
-use Rattle.eco_systems.specs.Batches.{joined}
-use Rattle.eco_script.specs.Text.{command_lines}
+use Rattle.eco_script.proofs.Common.{arith, ◌∙◌, ap, sym, length, subst, string_bytes, ◌≡◌, ◌+◌, ◌++◌, take_all, joined, command_lines}
 use Rattle.eco_script.proofs.Commands.{count_more, count_within, lines_more}
 use Rattle.eco_script.proofs.reply.push_frame_lines.Goals as goal
 

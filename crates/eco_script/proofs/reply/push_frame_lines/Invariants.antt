@@ -1,6 +1,4 @@
-use Rattle.std.proofs.Common.{◌≡◌, ◌++◌, length, take, string_bytes}
-use Rattle.eco_systems.specs.Batches.{joined}
-use Rattle.eco_script.specs.Text.{command_lines}
+use Rattle.eco_script.proofs.Common.{◌≡◌, ◌++◌, length, take, string_bytes, joined, command_lines}
 use Rattle.eco_script.proofs.reply.push_frame_lines.Given as goal
 
 -- the lines of the batches so far, whose commands are counted

@@ -1,5 +1,4 @@
-use Rattle.std.proofs.Common.{◌≡◌, ◌++◌, flat_map, string_bytes}
-use Rattle.eco_script.specs.Text.{outcome_line}
+use Rattle.eco_script.proofs.Common.{◌≡◌, ◌++◌, flat_map, string_bytes, outcome_line}
 use Rattle.eco_script.proofs.reply.push_outcome_lines.Given as goal
 
 -- with the lines of the commands that are left it is all lines

@@ -1,9 +1,7 @@
-use Rattle.std.proofs.Common.{rules, ◌≡◌, ◌+◌, ◌++◌, ◌∷◌, [], Some, take, flat_map, string_bytes, sym, ap, ◌∙◌}
+use Rattle.eco_script.proofs.Common.{rules, ◌≡◌, ◌+◌, ◌++◌, ◌∷◌, [], Some, take, flat_map, string_bytes, sym, ap, ◌∙◌, flat_map_more}
+use Rattle.eco_script.proofs.Common.{take_more, Row, row_line}
 use Rattle.std.specs.List.{slice_get}
-use Rattle.std.proofs.lemmas.List.{flat_map_more, take_more}
 use Rattle.std.proofs.lemmas.Option.{get_or_from_slice_get, slice_get_within}
-use Rattle.eco_ids.specs.Answer.{Row}
-use Rattle.eco_formats.specs.Lines.{row_line}
 use Rattle.eco_script.proofs.reply.push_row_lines.Goals as goal
 
 pub loop-place-preserved : goal.loop-place-preserved

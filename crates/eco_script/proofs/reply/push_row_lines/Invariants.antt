@@ -1,5 +1,4 @@
-use Rattle.std.proofs.Common.{◌≡◌, ◌++◌, take, flat_map, string_bytes}
-use Rattle.eco_formats.specs.Lines.{row_line}
+use Rattle.eco_script.proofs.Common.{◌≡◌, ◌++◌, take, flat_map, string_bytes, row_line}
 use Rattle.eco_script.proofs.reply.push_row_lines.Given as goal
 
 -- the lines of the results so far

@@ -1,9 +1,5 @@
-use Rattle.std.proofs.Common.{Err, [], ap, map}
-use Rattle.std.proofs.KnownBytes.{Keeps-refl}
-use Rattle.std.proofs.lemmas.Result.{err_from_is_err_and}
+use Rattle.eco_script.proofs.Common.{Err, [], ap, map, Keeps-refl, err_from_is_err_and, step_view, script_view, reached}
 use Rattle.serde_json.specs.View.{view}
-use Rattle.eco_steps.specs.Views.{step_view, script_view}
-use Rattle.eco_script.specs.Systems.{reached}
 use Rattle.eco_script.proofs.Runs.{no_script_bytes, ran_bytes, stopped_bytes}
 use Rattle.eco_script.proofs.run.run_bytes.Goals as goal
 

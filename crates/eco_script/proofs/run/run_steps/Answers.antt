@@ -1,9 +1,5 @@
-use Rattle.std.proofs.Common.{[], refl, ap, ◌+◌, ◌∙◌}
-use Rattle.std.proofs.KnownBytes.{Appends-nil}
+use Rattle.eco_script.proofs.Common.{[], refl, ap, ◌+◌, ◌∙◌, Appends-nil, KeepsTo, step_view, reached}
 use Rattle.std.proofs.lemmas.List.Elements.{All-get_or}
-use Rattle.eco_steps.specs.Steps.{KeepsTo}
-use Rattle.eco_steps.specs.Views.{step_view}
-use Rattle.eco_script.specs.Systems.{reached}
 use Rattle.eco_script.proofs.Runs.{stopped_between, stopped_within, gathered_all, gathered_more, gathered_less}
 use Rattle.eco_script.proofs.run.run_steps.Goals as goal
 

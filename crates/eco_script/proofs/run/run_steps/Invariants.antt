@@ -1,6 +1,4 @@
-use Rattle.std.proofs.Common.{◌≡◌, [], string_bytes}
-use Rattle.eco_steps.specs.Views.{step_view}
-use Rattle.eco_script.specs.Systems.{reached}
+use Rattle.eco_script.proofs.Common.{◌≡◌, [], string_bytes, step_view, reached}
 use Rattle.eco_script.proofs.Runs.{Gathered}
 use Rattle.eco_script.proofs.run.run_steps.Given as goal
 

@@ -1,4 +1,4 @@
-use Rattle.std.proofs.Common.{Err, ap}
+use Rattle.eco_script.proofs.Common.{Err, ap}
 use Rattle.eco_script.proofs.Runs.{not_read_to_end, ran_to_end}
 use Rattle.eco_script.proofs.run.run_world.Goals as goal
 

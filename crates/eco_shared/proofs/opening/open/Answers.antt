@@ -1,7 +1,4 @@
-use Rattle.std.proofs.Common.{◌≡◌, ◌∙◌, sym, ap, subst}
-use Rattle.std.specs.List.{All}
-use Rattle.left_right.specs.Sides.{view}
-use Rattle.eco_shared.specs.Views.{IsNew}
+use Rattle.eco_shared.proofs.Common.{◌≡◌, ◌∙◌, sym, ap, subst, All, view, IsNew}
 use Rattle.eco_shared.proofs.opening.open.Goals as goal
 
 -- they are made for the merger that was opened, whose number they have

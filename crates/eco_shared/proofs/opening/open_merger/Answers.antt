@@ -1,9 +1,6 @@
-use Rattle.std.proofs.Common.{[], ◌∷◌, ◌≡◌, ◌∙◌, Some, ap, arith, length, rules, sym}
+use Rattle.eco_shared.proofs.Common.{[], ◌∷◌, ◌≡◌, ◌∙◌, Some, ap, arith, length, rules, sym, mark_of, Knows, Merge}
 use Rattle.std.proofs.lemmas.List.{length-append}
-use Rattle.eco_histories.specs.Marks.{mark_of}
 use Rattle.eco_histories.specs.declared.front.Front.{Front}
-use Rattle.eco_shared.specs.declared.merge.Knows.{Knows}
-use Rattle.eco_shared.specs.declared.merge.Merge.{Merge}
 use Rattle.eco_shared.proofs.Repeats.{none_keeps}
 use Rattle.eco_shared.proofs.opening.open_merger.Goals as goal
 

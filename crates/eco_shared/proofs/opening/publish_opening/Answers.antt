@@ -1,7 +1,4 @@
-use Rattle.std.proofs.Common.{◌≡◌, ◌∙◌, ap, fold}
-use Rattle.left_right.specs.Sides.{view}
-use Rattle.eco_shared.specs.declared.shown.Shown.{Shown}
-use Rattle.eco_shared.specs.Sharing.{shown_state}
+use Rattle.eco_shared.proofs.Common.{◌≡◌, ◌∙◌, ap, fold, view, Shown, shown_state}
 use Rattle.eco_shared.proofs.Keeps.{opens}
 use Rattle.eco_shared.proofs.opening.publish_opening.Goals as goal
 

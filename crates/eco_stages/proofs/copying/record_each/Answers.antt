@@ -1,7 +1,6 @@
-use Rattle.std.proofs.Common.{◌≡◌, ℕ, ◌+◌, ◌<◌, List, [], ◌++◌, length, append_assoc, get_or, take, sym, ap, ◌∙◌}
-use Rattle.std.proofs.lemmas.List.{flat_map_more, take_more}
+use Rattle.eco_stages.proofs.Common.{◌≡◌, ℕ, ◌+◌, ◌<◌, List, [], ◌++◌, length, append_assoc, get_or, take, sym, ap, ◌∙◌}
+use Rattle.eco_stages.proofs.Common.{flat_map_more, take_more, all_commands}
 use Rattle.eco_ids.specs.Run.{Command}
-use Rattle.eco_stages.specs.Merging.{all_commands}
 use Rattle.eco_stages.proofs.copying.record_each.Goals as goal
 
 -- the commands of so many stages, and of one more

@@ -1,5 +1,4 @@
-use Rattle.std.proofs.Common.{◌≡◌, ◌++◌, take}
-use Rattle.eco_stages.specs.Merging.{all_commands}
+use Rattle.eco_stages.proofs.Common.{◌≡◌, ◌++◌, take, all_commands}
 use Rattle.eco_stages.proofs.copying.record_each.Given as goal
 
 abbrev pub invariant-loop-stage : goal.invariant-loop-stage

@@ -1,9 +1,6 @@
-use Rattle.std.proofs.Common.{drop, take, ap, ◌∙◌, subst}
-use Rattle.std.proofs.lemmas.List.{length-drop, length-map, length-take-le, map-append, take_rest}
+use Rattle.eco_stages.proofs.Common.{drop, take, ap, ◌∙◌, subst, length-drop, length-map, length-take-le, map-append, take_rest, arith, command_of}
+use Rattle.eco_stages.proofs.Common.{commands_of, AreDone}
 use Rattle.std.proofs.Math.Seq.{take-add}
-use native.Mathlib.Omega.{arith}
-use Rattle.eco_stages.specs.Commands.{command_of, commands_of}
-use Rattle.eco_stages.specs.Merging.{AreDone}
 use Rattle.eco_stages.proofs.Merges.{both_done, grown, none_done}
 use Rattle.eco_stages.proofs.merging.apply_each.Goals as goal
 

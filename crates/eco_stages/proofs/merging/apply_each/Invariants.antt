@@ -1,6 +1,4 @@
-use Rattle.std.proofs.Common.{◌≤◌, ◌-◌, length, take}
-use Rattle.eco_stages.specs.Commands.{commands_of}
-use Rattle.eco_stages.specs.Merging.{AreDone}
+use Rattle.eco_stages.proofs.Common.{◌≤◌, ◌-◌, length, take, commands_of, AreDone}
 use Rattle.eco_stages.proofs.merging.apply_each.Given as goal
 
 abbrev pub invariant-loop-done : goal.invariant-loop-done

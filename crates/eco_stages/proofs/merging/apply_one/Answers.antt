@@ -1,4 +1,4 @@
-use Rattle.eco_stages.specs.Commands.{command_of}
+use Rattle.eco_stages.proofs.Common.{command_of}
 use Rattle.eco_stages.proofs.Merges.{one_done}
 use Rattle.eco_stages.proofs.merging.apply_one.Goals as goal
 

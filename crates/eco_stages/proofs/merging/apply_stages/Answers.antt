@@ -1,9 +1,5 @@
-use Rattle.std.proofs.Common.{◌≡◌, ◌++◌, length, get_or, take, sym, ap, ◌∙◌}
-use Rattle.std.proofs.lemmas.List.{length-map}
+use Rattle.eco_stages.proofs.Common.{◌≡◌, ◌++◌, length, get_or, take, sym, ap, ◌∙◌, length-map, arith, command_of, commands_of, all_commands}
 use Rattle.std.proofs.lemmas.List.Folds.{length-flat_map-take}
-use native.Mathlib.Omega.{arith}
-use Rattle.eco_stages.specs.Commands.{command_of, commands_of}
-use Rattle.eco_stages.specs.Merging.{all_commands}
 use Rattle.eco_stages.proofs.Merges.{none_done, both_done, grown, stage_more}
 use Rattle.eco_stages.proofs.merging.apply_stages.Goals as goal
 

@@ -1,5 +1,4 @@
-use Rattle.std.proofs.Common.{take}
-use Rattle.eco_stages.specs.Merging.{AreDone, all_commands}
+use Rattle.eco_stages.proofs.Common.{take, AreDone, all_commands}
 use Rattle.eco_stages.proofs.merging.apply_stages.Given as goal
 
 abbrev pub invariant-loop-stage : goal.invariant-loop-stage

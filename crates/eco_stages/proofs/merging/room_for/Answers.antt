@@ -1,7 +1,4 @@
-use Rattle.std.proofs.Common.{◌≡◌, ◌≤◌, ◌<◌, length, get_or, ap, subst}
-use Rattle.std.proofs.lemmas.List.{take_all}
-use native.Mathlib.Omega.{arith}
-use Rattle.eco_stages.specs.Merging.{all_commands}
+use Rattle.eco_stages.proofs.Common.{◌≡◌, ◌≤◌, ◌<◌, length, get_or, ap, subst, take_all, arith, all_commands}
 use Rattle.eco_stages.proofs.Merges.{count_more, some_there, all_fit}
 use Rattle.eco_stages.proofs.merging.room_for.Goals as goal
 

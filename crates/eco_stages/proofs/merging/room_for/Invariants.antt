@@ -1,5 +1,4 @@
-use Rattle.std.proofs.Common.{◌≤◌, ◌<◌, ◌-◌, ◌^◌, length, take}
-use Rattle.eco_stages.specs.Merging.{all_commands}
+use Rattle.eco_stages.proofs.Common.{◌≤◌, ◌<◌, ◌-◌, ◌^◌, length, take, all_commands}
 use Rattle.eco_stages.proofs.merging.room_for.Given as goal
 
 abbrev pub invariant-loop-stage : goal.invariant-loop-stage

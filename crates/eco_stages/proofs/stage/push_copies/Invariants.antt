@@ -1,5 +1,4 @@
-use Rattle.std.proofs.Common.{◌≡◌, ◌+◌, ◌++◌, take, vec_capacity, vec_len}
-use Rattle.eco_stages.specs.Commands.{commands_of}
+use Rattle.eco_stages.proofs.Common.{◌≡◌, ◌+◌, ◌++◌, take, vec_capacity, vec_len, commands_of}
 use Rattle.eco_stages.proofs.stage.push_copies.Given as goal
 
 abbrev pub invariant-loop-command : goal.invariant-loop-command

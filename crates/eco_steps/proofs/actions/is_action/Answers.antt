@@ -1,7 +1,4 @@
-use Rattle.std.proofs.Common.{◌∙◌}
-use Rattle.serde_json.specs.View.{view}
-use Rattle.eco_steps.specs.Decode.{action_in}
-use Rattle.eco_steps.specs.Views.{action_view}
+use Rattle.eco_steps.proofs.Common.{◌∙◌, view, action_in, action_view}
 use Rattle.eco_steps.proofs.Values.{some_read}
 use Rattle.eco_steps.proofs.actions.is_action.Goals as goal
 

@@ -1,7 +1,4 @@
-use Rattle.std.proofs.Common.{arith, ◌∙◌, ap, sym, option_map}
-use Rattle.serde_json.specs.View.{view}
-use Rattle.eco_ids.specs.World.{padded}
-use Rattle.eco_steps.specs.Decode.{integer_in}
+use Rattle.eco_steps.proofs.Common.{arith, ◌∙◌, ap, sym, option_map, view, padded, integer_in}
 use Rattle.eco_steps.proofs.Parts.{field_read, fields_read_all}
 use Rattle.eco_steps.proofs.Values.{none_more}
 use Rattle.eco_steps.proofs.arguments.read_fields.Goals as goal

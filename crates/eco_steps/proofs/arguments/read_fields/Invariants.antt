@@ -1,7 +1,4 @@
-use Rattle.std.proofs.Common.{◌≡◌, ◌-◌, ◌++◌, pos, take, drop, replicate, map, option_map}
-use Rattle.serde_json.specs.View.{view}
-use Rattle.eco_ids.specs.declared.value.TheConstants.{FIELD_COUNT}
-use Rattle.eco_steps.specs.Decode.{each_in, integer_in}
+use Rattle.eco_steps.proofs.Common.{◌≡◌, ◌-◌, ◌++◌, pos, take, drop, replicate, map, option_map, view, FIELD_COUNT, each_in, integer_in}
 use Rattle.eco_steps.proofs.arguments.read_fields.Given as goal
 
 -- the fields so far, and those of what is left, are all fields; behind them there are zeros

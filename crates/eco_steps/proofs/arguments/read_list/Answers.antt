@@ -1,6 +1,4 @@
-use Rattle.std.proofs.Common.{Some, map, option_map, ap, ◌∙◌, sym}
-use Rattle.serde_json.specs.View.{view}
-use Rattle.eco_steps.specs.Decode.{items_list}
+use Rattle.eco_steps.proofs.Common.{Some, map, option_map, ap, ◌∙◌, sym, view, items_list}
 use Rattle.eco_steps.proofs.Values.{items_list-items_of}
 use Rattle.eco_steps.proofs.arguments.read_list.Goals as goal
 

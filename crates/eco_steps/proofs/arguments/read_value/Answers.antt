@@ -1,7 +1,4 @@
-use Rattle.std.proofs.Common.{◌≤◌, ◌∙◌, ap, length, sym, option_and_then, map, arith}
-use Rattle.std.proofs.lemmas.List.{length-map}
-use Rattle.serde_json.specs.View.{view}
-use Rattle.eco_steps.specs.Decode.{value_of_items}
+use Rattle.eco_steps.proofs.Common.{◌≤◌, ◌∙◌, ap, length, sym, option_and_then, map, arith, length-map, view, value_of_items}
 use Rattle.eco_steps.proofs.Parts.{arity_fits, items_read}
 use Rattle.eco_steps.proofs.arguments.read_value.Goals as goal
 

@@ -1,7 +1,4 @@
-use Rattle.std.proofs.Common.{◌∙◌}
-use Rattle.serde_json.specs.View.{view}
-use Rattle.eco_steps.specs.Decode.{command_in}
-use Rattle.eco_steps.specs.Views.{command_view}
+use Rattle.eco_steps.proofs.Common.{◌∙◌, view, command_in, command_view}
 use Rattle.eco_steps.proofs.Values.{some_read}
 use Rattle.eco_steps.proofs.commands.is_command.Goals as goal
 

@@ -1,8 +1,4 @@
-use Rattle.std.proofs.Common.{rules, ◌≡◌, ◌++◌, ◌∷◌, [], ◌∙◌, ap, map, arith}
-use Rattle.std.proofs.lemmas.List.{map-append}
-use Rattle.serde_json.specs.View.{view}
-use Rattle.eco_steps.specs.Decode.{step_in}
-use Rattle.eco_steps.specs.Views.{step_view}
+use Rattle.eco_steps.proofs.Common.{rules, ◌≡◌, ◌++◌, ◌∷◌, [], ◌∙◌, ap, map, arith, map-append, view, step_in, step_view}
 use Rattle.eco_steps.proofs.Values.{one_more, none_more}
 use Rattle.eco_steps.proofs.script.read_steps.Goals as goal
 

@@ -1,7 +1,4 @@
-use Rattle.std.proofs.Common.{◌≡◌, ◌++◌, drop, map, option_map}
-use Rattle.serde_json.specs.View.{view}
-use Rattle.eco_steps.specs.Decode.{each_in, step_in}
-use Rattle.eco_steps.specs.Views.{step_view}
+use Rattle.eco_steps.proofs.Common.{◌≡◌, ◌++◌, drop, map, option_map, view, each_in, step_in, step_view}
 use Rattle.eco_steps.proofs.script.read_steps.Given as goal
 
 -- the steps so far, and those of what is left, are all steps

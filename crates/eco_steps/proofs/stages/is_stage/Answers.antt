@@ -1,7 +1,4 @@
-use Rattle.std.proofs.Common.{◌∙◌}
-use Rattle.serde_json.specs.View.{view}
-use Rattle.eco_steps.specs.Decode.{stage_in}
-use Rattle.eco_steps.specs.Views.{commands_view}
+use Rattle.eco_steps.proofs.Common.{◌∙◌, view, stage_in, commands_view}
 use Rattle.eco_steps.proofs.Values.{some_read}
 use Rattle.eco_steps.proofs.stages.is_stage.Goals as goal
 

@@ -1,8 +1,4 @@
-use Rattle.std.proofs.Common.{length, ap, ◌∙◌}
-use Rattle.eco_entities.specs.declared.place.Place.{Place}
-use Rattle.eco_entities.specs.Registration.{placed}
-use Rattle.eco_ids.specs.Indices.{changed}
-use Rattle.eco_store.specs.Layout.{rows_in}
+use Rattle.eco_store.proofs.Common.{length, ap, ◌∙◌, Place, placed, changed, rows_in}
 use Rattle.eco_store.proofs.Needing.{placed_covers}
 use Rattle.eco_store.proofs.placing.seat.Goals as goal
 

@@ -1,4 +1,4 @@
-use Rattle.std.proofs.Common.{◌≡◌, ◌++◌, ◌+◌, ◌-◌, ◌≤◌, map, take, length, vec_len, vec_capacity}
+use Rattle.eco_store.proofs.Common.{◌≡◌, ◌++◌, ◌+◌, ◌-◌, ◌≤◌, map, take, length, vec_len, vec_capacity}
 use Rattle.eco_store.proofs.standing.add_standing.Given as goal
 
 abbrev pub invariant-loop-entity : goal.invariant-loop-entity

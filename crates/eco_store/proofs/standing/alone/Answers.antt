@@ -1,8 +1,4 @@
-use Rattle.std.proofs.Common.{rules}
-use Rattle.std.specs.List.Sorted.{IsPermutation, IsSorted}
-use Rattle.std.proofs.lemmas.List.Sorted.{IsPermutation-map, IsPermutation-refl}
-use Rattle.eco_ids.specs.Order.{entity_cmp}
-use Rattle.eco_store.specs.Ranking.{in_first}
+use Rattle.eco_store.proofs.Common.{rules, IsPermutation, IsSorted, IsPermutation-map, IsPermutation-refl, entity_cmp, in_first}
 use Rattle.eco_store.proofs.Ranking.{first_sorted}
 use Rattle.eco_store.proofs.standing.alone.Goals.{then-not-ascend, else-not-ascend}
 use Rattle.eco_store.proofs.standing.alone.Goals as goal

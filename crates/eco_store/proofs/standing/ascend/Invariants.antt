@@ -1,7 +1,5 @@
-use Rattle.std.specs.List.Sorted.{IsSortedWithin}
+use Rattle.eco_store.proofs.Common.{IsSortedWithin, entity_cmp, Entity}
 use Rattle.std.specs.Ordering.{is_lt}
-use Rattle.eco_ids.specs.Order.{entity_cmp}
-use Rattle.eco_ids.specs.declared.entity.Entity.{Entity}
 use Rattle.eco_store.proofs.standing.ascend.Given as goal
 
 abbrev pub invariant-loop-place : goal.invariant-loop-place

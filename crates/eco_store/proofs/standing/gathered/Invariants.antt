@@ -1,5 +1,4 @@
-use Rattle.std.proofs.Common.{◌≡◌, ◌++◌, drop}
-use Rattle.eco_store.specs.Ranking.{standings}
+use Rattle.eco_store.proofs.Common.{◌≡◌, ◌++◌, drop, standings}
 use Rattle.eco_store.proofs.standing.gathered.Given as goal
 
 abbrev pub invariant-loop-place : goal.invariant-loop-place

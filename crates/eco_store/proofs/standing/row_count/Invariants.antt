@@ -1,4 +1,4 @@
-use Rattle.std.proofs.Common.{◌<◌}
+use Rattle.eco_store.proofs.Common.{◌<◌}
 use Rattle.eco_store.proofs.standing.row_count.Given as goal
 
 abbrev pub invariant-loop-slot : goal.invariant-loop-slot

@@ -1,6 +1,4 @@
-use Rattle.std.proofs.Common.{rules}
-use Rattle.std.proofs.lemmas.List.Sorted.{answers_always}
-use Rattle.eco_store.specs.declared.standing.Standing.{Standing}
+use Rattle.eco_store.proofs.Common.{rules, answers_always, Standing}
 use Rattle.eco_store.proofs.standing.sort_all.Goals as goal
 
 pub returns-clause-ascending : goal.returns-clause-ascending

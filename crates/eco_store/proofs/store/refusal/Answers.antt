@@ -1,5 +1,4 @@
-use Rattle.std.proofs.Common.{◌≡◌, Option, None, Some, Result, Ok, Err, MatchOption}
-use Rattle.eco_ids.specs.declared.refusal.Refusal.{Refusal}
+use Rattle.eco_store.proofs.Common.{◌≡◌, Option, None, Some, Result, Ok, Err, MatchOption, Refusal}
 use Rattle.eco_store.proofs.store.refusal.Goals as goal
 
 name_found : (unfit : Option Refusal) (P : Type 0) (why : Refusal)

@@ -1,4 +1,4 @@
-use Rattle.std.proofs.Common.{rules, arith, lt_of_lt_of_le}
+use Rattle.eco_store.proofs.Common.{rules, arith, lt_of_lt_of_le}
 use Rattle.std.proofs.lemmas.Grind.{common_steps}
 use Rattle.eco_store.proofs.IndexWalk.{walk_step}
 use Rattle.eco_store.proofs.walking.add_numbered.Goals.{in-Some, in_default}

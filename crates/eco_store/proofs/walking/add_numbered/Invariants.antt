@@ -1,5 +1,4 @@
-use Rattle.std.proofs.Common.{◌≡◌, ◌+◌, ◌-◌, ◌≤◌, ◌++◌, drop, vec_capacity, vec_len}
-use Rattle.eco_store.specs.Ranking.{standing_from}
+use Rattle.eco_store.proofs.Common.{◌≡◌, ◌+◌, ◌-◌, ◌≤◌, ◌++◌, drop, vec_capacity, vec_len, standing_from}
 use Rattle.eco_store.proofs.walking.add_numbered.Given as goal
 
 abbrev pub invariant-loop-index : goal.invariant-loop-index

@@ -1,5 +1,4 @@
-use Rattle.std.proofs.Common.{◌≡◌, ◌-◌, ◌≤◌, ◌++◌, drop}
-use Rattle.eco_store.specs.Ranking.{standing_from}
+use Rattle.eco_store.proofs.Common.{◌≡◌, ◌-◌, ◌≤◌, ◌++◌, drop, standing_from}
 use Rattle.eco_store.proofs.walking.numbered.Given as goal
 
 abbrev pub decreases-loop-index : goal.decreases-loop-index

@@ -1,6 +1,4 @@
-use Rattle.std.proofs.Common.{arith, refl, subst, ◌∙◌, ◌+◌}
-use Rattle.std.proofs.lemmas.List.{length-set}
-use Rattle.eco_store.specs.Ranking.{IsNumbering}
+use Rattle.eco_store.proofs.Common.{arith, refl, subst, ◌∙◌, ◌+◌, length-set, IsNumbering}
 use Rattle.eco_store.proofs.IndexWalk.{one_numbered}
 use Rattle.eco_store.proofs.walking.numbers_of.Goals as goal
 

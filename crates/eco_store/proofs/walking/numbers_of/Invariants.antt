@@ -1,5 +1,4 @@
-use Rattle.std.proofs.Common.{◌≡◌, length}
-use Rattle.eco_store.specs.Ranking.{IsNumbering}
+use Rattle.eco_store.proofs.Common.{◌≡◌, length, IsNumbering}
 use Rattle.eco_store.proofs.walking.numbers_of.Given as goal
 
 abbrev pub invariant-loop-place : goal.invariant-loop-place

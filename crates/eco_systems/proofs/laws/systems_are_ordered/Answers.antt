@@ -1,4 +1,4 @@
-use Rattle.std.proofs.Common.{refl}
+use Rattle.eco_systems.proofs.Common.{refl}
 use Rattle.eco_systems.proofs.Orders.{order_has_systems}
 use Rattle.eco_systems.proofs.laws.systems_are_ordered.Goals as goal
 

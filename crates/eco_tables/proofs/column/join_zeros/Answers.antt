@@ -1,4 +1,5 @@
-use Rattle.std.proofs.Common.{◌+◌, ◌≤◌, arith, vec_len, vec_capacity, is_ok}
+use Rattle.eco_tables.proofs.Common.{◌+◌, ◌≤◌, arith, vec_len, is_ok}
+use Rattle.std.proofs.Common.{vec_capacity}
 use Rattle.eco_tables.proofs.Packing.{zeros_joined}
 use Rattle.eco_tables.proofs.column.join_zeros.Goals as goal
 

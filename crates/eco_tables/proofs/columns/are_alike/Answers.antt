@@ -1,6 +1,4 @@
-use Rattle.std.proofs.Common.{◌<◌, arith, ap, sym, ◌∙◌, true≢false, get_or, length}
-use Rattle.std.proofs.lemmas.List.{get_or-map}
-use Rattle.eco_tables.specs.Column.{kind_of}
+use Rattle.eco_tables.proofs.Common.{◌<◌, arith, ap, sym, ◌∙◌, true≢false, get_or, length, get_or-map, kind_of}
 use Rattle.eco_tables.proofs.columns.are_alike.Goals as goal
 
 pub returns-then-not-is_alike : goal.returns-then-not-is_alike

@@ -1,5 +1,4 @@
-use Rattle.std.proofs.Common.{◌≡◌, map, take, length}
-use Rattle.eco_tables.specs.Column.{kind_of}
+use Rattle.eco_tables.proofs.Common.{◌≡◌, map, take, length, kind_of}
 use Rattle.eco_tables.proofs.columns.are_alike.Given as goal
 
 abbrev pub invariant-loop-place : goal.invariant-loop-place

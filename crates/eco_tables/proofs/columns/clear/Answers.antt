@@ -1,5 +1,4 @@
-use Rattle.std.proofs.Common.{arith}
-use Rattle.eco_tables.specs.Column.{emptied}
+use Rattle.eco_tables.proofs.Common.{arith, emptied}
 use Rattle.eco_tables.proofs.Held.{mapped_more}
 use Rattle.eco_tables.proofs.columns.clear.Goals as goal
 

@@ -1,5 +1,4 @@
-use Rattle.std.proofs.Common.{◌≡◌, ◌++◌, map, take, drop}
-use Rattle.eco_tables.specs.Column.{emptied}
+use Rattle.eco_tables.proofs.Common.{◌≡◌, ◌++◌, map, take, drop, emptied}
 use Rattle.eco_tables.proofs.columns.clear.Given as goal
 
 abbrev pub invariant-loop-column : goal.invariant-loop-column

@@ -1,7 +1,5 @@
-use Rattle.std.proofs.Common.{◌≡◌, ◌∷◌, [], ◌++◌, arith, ◌∙◌, suc, ◌+◌, ◌<◌, length, refl}
-use Rattle.std.proofs.lemmas.List.{map-append}
-use Rattle.std.proofs.lemmas.List.Elements.{All-push}
-use Rattle.eco_tables.specs.Column.{ColumnState, kind_of}
+use Rattle.eco_tables.proofs.Common.{◌≡◌, ◌∷◌, [], ◌++◌, arith, ◌∙◌, suc, ◌+◌, ◌<◌, length, refl, map-append, All-push}
+use Rattle.eco_tables.proofs.Common.{ColumnState, kind_of}
 use Rattle.eco_tables.proofs.Widths.{kinds_pushed, kinds_skipped}
 use Rattle.eco_tables.proofs.columns.columns_of.Goals.{then-widths-place-gt0+in_ok-push, else-widths-place-gt0}
 use Rattle.eco_tables.proofs.columns.columns_of.Goals as goal

@@ -1,7 +1,4 @@
-use Rattle.std.proofs.Common.{◌≡◌, map, take, []}
-use Rattle.std.specs.List.{All}
-use Rattle.eco_tables.specs.Column.{kind_of}
-use Rattle.eco_tables.specs.Table.{kinds_of}
+use Rattle.eco_tables.proofs.Common.{◌≡◌, map, take, [], All, kind_of, kinds_of}
 use Rattle.eco_tables.proofs.columns.columns_of.Given as goal
 
 abbrev pub invariant-loop-place : goal.invariant-loop-place

@@ -1,6 +1,4 @@
-use Rattle.eco_tables.specs.Column.{contents}
-use Rattle.std.proofs.Common.{map, [], ◌∷◌, ap, ◌∙◌}
-use Rattle.std.proofs.lemmas.List.{map-append, take_all}
+use Rattle.eco_tables.proofs.Common.{contents, map, [], ◌∷◌, ap, ◌∙◌, map-append, take_all}
 use Rattle.eco_tables.proofs.Copies.{pushed_more}
 use Rattle.eco_tables.proofs.columns.copy_all.Goals as goal
 

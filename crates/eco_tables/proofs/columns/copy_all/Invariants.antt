@@ -1,5 +1,4 @@
-use Rattle.std.proofs.Common.{◌≡◌, map, take}
-use Rattle.eco_tables.specs.Column.{contents}
+use Rattle.eco_tables.proofs.Common.{◌≡◌, map, take, contents}
 use Rattle.eco_tables.proofs.columns.copy_all.Given as goal
 
 abbrev pub invariant-loop-column : goal.invariant-loop-column

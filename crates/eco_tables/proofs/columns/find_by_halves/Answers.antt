@@ -1,6 +1,4 @@
-use Rattle.std.proofs.Common.{arith, ap, sym, ◌∙◌}
-use Rattle.eco_ids.specs.Order.{id_cmp}
-use Rattle.eco_ids.proofs.IdOrder.{same_id}
+use Rattle.eco_tables.proofs.Common.{arith, ap, sym, ◌∙◌, id_cmp, same_id}
 use Rattle.eco_tables.proofs.Held.{before_greater, id_at, nowhere, past_less}
 use Rattle.eco_tables.proofs.columns.find_by_halves.Goals as goal
 

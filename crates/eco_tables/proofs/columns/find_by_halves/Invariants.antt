@@ -1,5 +1,4 @@
-use Rattle.std.proofs.Common.{◌≡◌, ◌≤◌, ◌<◌, ◌-◌, ℕ, length, get_or}
-use Rattle.eco_tables.specs.Column.{ColumnState}
+use Rattle.eco_tables.proofs.Common.{◌≡◌, ◌≤◌, ◌<◌, ◌-◌, ℕ, length, get_or, ColumnState}
 use Rattle.eco_tables.proofs.columns.find_by_halves.Given as goal
 
 abbrev pub invariant-loop-low : goal.invariant-loop-low

@@ -1,4 +1,4 @@
-use Rattle.std.proofs.Common.{◌∙◌, map}
+use Rattle.eco_tables.proofs.Common.{◌∙◌, map}
 use Rattle.eco_ids.proofs.Places.{absent_id, found_id}
 use Rattle.eco_tables.proofs.Held.{positions}
 use Rattle.eco_tables.proofs.columns.find_column.Goals as goal

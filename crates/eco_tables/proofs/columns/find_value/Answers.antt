@@ -1,5 +1,4 @@
-use Rattle.std.proofs.Common.{ap, sym, ◌∙◌, get_or, Some}
-use Rattle.eco_ids.specs.World.{zeros}
+use Rattle.eco_tables.proofs.Common.{ap, sym, ◌∙◌, get_or, Some, zeros}
 use Rattle.eco_tables.proofs.Held.{find-absent, found_at, place_within}
 use Rattle.eco_tables.proofs.columns.find_value.Goals as goal
 

@@ -1,6 +1,5 @@
-use Rattle.std.proofs.Common.{◌≡◌, length, not, is_lt, unwrap_or, ap, ◌∙◌, arith, ◌≤◌}
-use Rattle.std.specs.List.{position_from}
-use Rattle.eco_ids.specs.Order.{id_cmp}
+use Rattle.eco_tables.proofs.Common.{◌≡◌, length, not, unwrap_or, ap, ◌∙◌, arith, ◌≤◌, position_from, id_cmp}
+use Rattle.std.proofs.Common.{is_lt}
 use Rattle.eco_tables.proofs.Turning.{place_fits, put_in_place}
 use Rattle.eco_tables.proofs.columns.insert_column.Goals as goal
 

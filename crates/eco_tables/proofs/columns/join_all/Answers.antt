@@ -1,7 +1,5 @@
-use Rattle.std.proofs.Common.{◌≡◌, ◌≤◌, ◌<◌, ◌++◌, arith, ap, sym, ◌∙◌, get_or, length, map, take, drop, refl}
-use Rattle.std.proofs.lemmas.List.{take_all}
-use Rattle.eco_tables.specs.Column.{ColumnState, contents, lengthened}
-use Rattle.eco_tables.specs.Table.{rows_from}
+use Rattle.eco_tables.proofs.Common.{◌≡◌, ◌≤◌, ◌<◌, ◌++◌, arith, ap, sym, ◌∙◌, get_or, length, map, take, drop, refl, take_all}
+use Rattle.eco_tables.proofs.Common.{ColumnState, contents, lengthened, rows_from}
 use Rattle.eco_tables.proofs.Held.{joined_more, mapped_all, place_id, place_within, rest_at, rest_more, room_more}
 use Rattle.eco_tables.proofs.Rows.{values_absent, values_at, values_held}
 use Rattle.eco_tables.proofs.columns.join_all.Goals.{in-Some, in-None}

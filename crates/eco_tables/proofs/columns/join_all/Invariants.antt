@@ -1,7 +1,4 @@
-use Rattle.std.proofs.Common.{◌≡◌, ℕ, ◌+◌, ◌≤◌, ◌++◌, length, map, take, drop}
-use Rattle.std.specs.List.{All}
-use Rattle.eco_tables.specs.Column.{contents, lengthened}
-use Rattle.eco_tables.specs.Table.{rows_from}
+use Rattle.eco_tables.proofs.Common.{◌≡◌, ℕ, ◌+◌, ◌≤◌, ◌++◌, length, map, take, drop, All, contents, lengthened, rows_from}
 use Rattle.eco_tables.proofs.Rows.{values_held}
 use Rattle.eco_tables.proofs.columns.join_all.Given as goal
 

@@ -1,5 +1,4 @@
-use Rattle.std.proofs.Common.{◌≡◌, ◌++◌, map, take, drop}
-use Rattle.eco_tables.specs.Column.{pushed, value_in, held_in}
+use Rattle.eco_tables.proofs.Common.{◌≡◌, ◌++◌, map, take, drop, pushed, value_in, held_in}
 use Rattle.eco_tables.proofs.columns.push_each_from.Given as goal
 
 abbrev pub invariant-loop-column : goal.invariant-loop-column

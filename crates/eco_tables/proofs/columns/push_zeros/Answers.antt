@@ -1,6 +1,4 @@
-use Rattle.std.proofs.Common.{◌<◌, arith, refl}
-use Rattle.eco_ids.specs.World.{zeros}
-use Rattle.eco_tables.specs.Column.{pushed}
+use Rattle.eco_tables.proofs.Common.{◌<◌, arith, refl, zeros, pushed}
 use Rattle.eco_tables.proofs.Held.{mapped_all, mapped_more, not_yet_all}
 use Rattle.eco_tables.proofs.columns.push_zeros.Goals as goal
 

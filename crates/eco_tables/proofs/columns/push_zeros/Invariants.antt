@@ -1,6 +1,4 @@
-use Rattle.std.proofs.Common.{◌≡◌, ◌++◌, map, take, drop}
-use Rattle.eco_ids.specs.World.{zeros}
-use Rattle.eco_tables.specs.Column.{pushed}
+use Rattle.eco_tables.proofs.Common.{◌≡◌, ◌++◌, map, take, drop, zeros, pushed}
 use Rattle.eco_tables.proofs.columns.push_zeros.Given as goal
 
 abbrev pub invariant-loop-column : goal.invariant-loop-column

@@ -1,4 +1,4 @@
-use Rattle.std.proofs.Common.{◌∙◌}
+use Rattle.eco_tables.proofs.Common.{◌∙◌}
 use Rattle.eco_tables.proofs.Turning.{removed_at, removed_none}
 use Rattle.eco_tables.proofs.columns.remove_column.Goals as goal
 

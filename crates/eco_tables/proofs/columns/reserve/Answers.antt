@@ -1,6 +1,4 @@
-use Rattle.std.proofs.Common.{arith, ap, ◌∙◌, refl, length, ◌<◌}
-use Rattle.std.proofs.lemmas.List.{take_all}
-use Rattle.eco_tables.specs.Column.{contents}
+use Rattle.eco_tables.proofs.Common.{arith, ap, ◌∙◌, refl, length, ◌<◌, take_all, contents}
 use Rattle.eco_tables.proofs.Held.{contents_kept, room_kept, room_more}
 use Rattle.eco_tables.proofs.columns.reserve.Goals as goal
 

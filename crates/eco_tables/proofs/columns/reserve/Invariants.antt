@@ -1,6 +1,4 @@
-use Rattle.std.proofs.Common.{◌≡◌, ℕ, ◌≤◌, map, take}
-use Rattle.std.specs.List.{All}
-use Rattle.eco_tables.specs.Column.{contents}
+use Rattle.eco_tables.proofs.Common.{◌≡◌, ℕ, ◌≤◌, map, take, All, contents}
 use Rattle.eco_tables.proofs.columns.reserve.Given as goal
 
 abbrev pub invariant-loop-column : goal.invariant-loop-column

@@ -1,5 +1,4 @@
-use Rattle.std.proofs.Common.{◌<◌, arith, length, refl}
-use Rattle.eco_tables.specs.Column.{with_removed}
+use Rattle.eco_tables.proofs.Common.{◌<◌, arith, length, refl, with_removed}
 use Rattle.eco_tables.proofs.Held.{mapped_all, mapped_more, not_yet_all}
 use Rattle.eco_tables.proofs.columns.swap_out_each.Goals as goal
 

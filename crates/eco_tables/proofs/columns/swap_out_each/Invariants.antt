@@ -1,5 +1,4 @@
-use Rattle.std.proofs.Common.{◌≡◌, ◌++◌, map, take, drop}
-use Rattle.eco_tables.specs.Column.{with_removed}
+use Rattle.eco_tables.proofs.Common.{◌≡◌, ◌++◌, map, take, drop, with_removed}
 use Rattle.eco_tables.proofs.columns.swap_out_each.Given as goal
 
 abbrev pub invariant-loop-column : goal.invariant-loop-column

@@ -1,4 +1,4 @@
-use Rattle.std.proofs.Common.{ap, sym, ◌∙◌, set}
+use Rattle.eco_tables.proofs.Common.{ap, sym, ◌∙◌, set}
 use Rattle.eco_tables.proofs.Held.{has_place, place_id, place_within, written-absent, written_at}
 use Rattle.eco_tables.proofs.columns.write_value.Goals as goal
 

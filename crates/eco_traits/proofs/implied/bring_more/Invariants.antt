@@ -1,5 +1,4 @@
-use Rattle.std.proofs.Common.{take}
-use Rattle.eco_traits.specs.Closure.{BringNoMore}
+use Rattle.eco_traits.proofs.Common.{take, BringNoMore}
 use Rattle.eco_traits.proofs.implied.bring_more.Given as goal
 
 abbrev pub invariant-loop-id : goal.invariant-loop-id

@@ -1,6 +1,4 @@
-use Rattle.std.proofs.Common.{ap, ◌∙◌}
-use Rattle.std.specs.List.{list_any}
-use Rattle.eco_ids.specs.Mirrors.{is_with}
+use Rattle.eco_traits.proofs.Common.{ap, ◌∙◌, list_any, is_with}
 use Rattle.eco_traits.proofs.Traits.{with_among}
 use Rattle.eco_traits.proofs.implied.brings_any.Goals as goal
 

@@ -1,10 +1,4 @@
-use Rattle.std.proofs.Common.{sym, ap, ◌∙◌, subst, true≢false, IsFalse}
-use Rattle.std.proofs.lemmas.Result.{IfOk-weaker}
-use Rattle.eco_ids.specs.declared.entity.TheConstants.{WITH}
-use Rattle.eco_ids.specs.declared.id.Id.TheVariants.{Two}
-use Rattle.eco_ids.specs.Order.{id_cmp, with_item}
-use Rattle.eco_ids.specs.Step.{IsClosure}
-use Rattle.eco_ids.specs.World.{has}
+use Rattle.eco_traits.proofs.Common.{sym, ap, ◌∙◌, subst, true≢false, IsFalse, IfOk-weaker, WITH, Two, id_cmp, with_item, IsClosure, has}
 use Rattle.eco_traits.proofs.Closures.{closure_alone}
 use Rattle.eco_traits.proofs.Walks.{has_nothing}
 use Rattle.eco_traits.proofs.implied.closure.Goals as goal

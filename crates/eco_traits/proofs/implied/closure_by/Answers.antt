@@ -1,9 +1,5 @@
-use Rattle.std.proofs.Common.{◌↔◌, IfOk, Ok, Err, Result, sym, ◌∙◌, subst, IsTrue, true≢false}
-use Rattle.eco_ids.specs.declared.entity.Entity.{Entity}
-use Rattle.eco_ids.specs.declared.entity.TheConstants.{WITH}
-use Rattle.eco_ids.specs.Order.{entity_cmp, has_item}
-use Rattle.eco_ids.specs.Traits.{Reaches}
-use Rattle.eco_traits.specs.Closure.{head_of}
+use Rattle.eco_traits.proofs.Common.{◌↔◌, IfOk, Ok, Err, Result, sym, ◌∙◌, subst, IsTrue, true≢false, Entity, WITH, entity_cmp, has_item, Reaches}
+use Rattle.eco_traits.proofs.Common.{head_of}
 use Rattle.eco_traits.proofs.Closures.{closure_of_heads}
 use Rattle.eco_traits.proofs.Flat.{flat_closure, none_with}
 use Rattle.eco_traits.proofs.implied.closure_by.Goals as goal

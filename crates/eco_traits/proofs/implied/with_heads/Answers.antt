@@ -1,5 +1,4 @@
-use Rattle.std.proofs.Common.{ap, ◌∙◌}
-use Rattle.eco_ids.specs.Order.{has_item, id_cmp, with_item}
+use Rattle.eco_traits.proofs.Common.{ap, ◌∙◌, has_item, id_cmp, with_item}
 use Rattle.eco_traits.proofs.Flat.{ascends_empty, ascends_with, keeps_heads}
 use Rattle.eco_traits.proofs.implied.with_heads.Goals as goal
 

@@ -1,7 +1,4 @@
-use Rattle.std.proofs.Common.{◌≡◌, take, IsTrue}
-use Rattle.eco_ids.specs.declared.id.Id.{Id}
-use Rattle.eco_ids.specs.Order.{id_cmp, has_item, is_ascending}
-use Rattle.eco_traits.specs.Closure.{with_heads}
+use Rattle.eco_traits.proofs.Common.{◌≡◌, take, IsTrue, Id, id_cmp, has_item, is_ascending, with_heads}
 use Rattle.eco_traits.proofs.implied.with_heads.Given as goal
 
 abbrev pub invariant-loop-head : goal.invariant-loop-head

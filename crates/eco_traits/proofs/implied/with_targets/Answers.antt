@@ -1,14 +1,8 @@
-use Rattle.std.proofs.lemmas.Grind.{common_steps}
-use Rattle.std.proofs.Common.{◌≡◌, ap, sym, ◌∙◌, subst, arith, IsTrue}
-use Rattle.std.proofs.lemmas.List.{take_all}
-use Rattle.std.proofs.lemmas.Result.{err_from_is_err_and}
-use Rattle.eco_ids.specs.declared.id.Id.{Id}
-use Rattle.eco_ids.specs.declared.id.Id.TheVariants.{One}
-use Rattle.eco_ids.specs.Order.{has_item, id_cmp, is_ascending}
-use Rattle.eco_traits.specs.Closure.{HasGiven}
+use Rattle.eco_traits.proofs.Common.{common_steps, ◌≡◌, ap, sym, ◌∙◌, subst, arith, IsTrue, take_all, err_from_is_err_and, Id, One, has_item}
+use Rattle.eco_traits.proofs.Common.{id_cmp, is_ascending, HasGiven}
 use Rattle.eco_traits.proofs.Flat.{ascends_empty, ascends_with, given_first, keeps_given, none_without, put_ascends, put_by}
-use Rattle.eco_traits.proofs.implied.with_targets.Goals as goal
 use Rattle.eco_traits.proofs.implied.with_targets.Goals.{in-Some+in_ok-insert-2, in_default}
+use Rattle.eco_traits.proofs.implied.with_targets.Goals as goal
 
 -- what a read past the end of the ids would be
 least_id : Id

@@ -1,6 +1,4 @@
-use Rattle.std.proofs.Common.{take, IsTrue}
-use Rattle.eco_ids.specs.Order.{id_cmp, is_ascending}
-use Rattle.eco_traits.specs.Closure.{HasGiven}
+use Rattle.eco_traits.proofs.Common.{take, IsTrue, id_cmp, is_ascending, HasGiven}
 use Rattle.eco_traits.proofs.implied.with_targets.Given as goal
 
 abbrev pub invariant-loop-own : goal.invariant-loop-own

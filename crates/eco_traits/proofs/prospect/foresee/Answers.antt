@@ -1,5 +1,4 @@
-use Rattle.std.proofs.lemmas.Grind.{common_steps}
-use Rattle.std.proofs.Common.{arith}
+use Rattle.eco_traits.proofs.Common.{common_steps, arith}
 use Rattle.eco_traits.proofs.Plain.{plain_unmirrored}
 use Rattle.eco_traits.proofs.Targets.{plain_target}
 use Rattle.eco_traits.proofs.Walks.{has_listed}

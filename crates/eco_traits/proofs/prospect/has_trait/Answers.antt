@@ -1,6 +1,4 @@
-use Rattle.std.proofs.Common.{ap, ◌∙◌}
-use Rattle.std.specs.List.{list_any}
-use Rattle.eco_traits.specs.Prospect.{is_trait}
+use Rattle.eco_traits.proofs.Common.{ap, ◌∙◌, list_any, is_trait}
 use Rattle.eco_traits.proofs.Traits.{traits_among}
 use Rattle.eco_traits.proofs.prospect.has_trait.Goals as goal
 

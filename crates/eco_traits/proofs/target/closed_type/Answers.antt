@@ -1,6 +1,4 @@
-use Rattle.std.proofs.Common.{sym, ap, ◌∙◌, subst}
-use Rattle.eco_ids.specs.Step.{IsClosure, Judges, grown}
-use Rattle.eco_traits.specs.Target.{extended_by}
+use Rattle.eco_traits.proofs.Common.{sym, ap, ◌∙◌, subst, IsClosure, Judges, grown, extended_by}
 use Rattle.eco_traits.proofs.Verdicts.{judged_leads, judged_refuses}
 use Rattle.eco_traits.proofs.target.closed_type.Goals as goal
 

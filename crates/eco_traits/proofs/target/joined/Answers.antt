@@ -1,6 +1,4 @@
-use Rattle.std.proofs.lemmas.Grind.{common_steps}
-use Rattle.std.proofs.lemmas.Result.{IfOk-weaker}
-use Rattle.std.proofs.Common.{arith}
+use Rattle.eco_traits.proofs.Common.{common_steps, IfOk-weaker, arith}
 use Rattle.eco_traits.proofs.Joined.{either_way}
 use Rattle.eco_traits.proofs.target.joined.Goals as goal
 

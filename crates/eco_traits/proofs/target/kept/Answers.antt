@@ -1,11 +1,7 @@
-use Rattle.std.proofs.lemmas.Grind.{common_steps}
-use Rattle.std.proofs.Common.{arith, unwrap_or}
-use Rattle.std.proofs.Math.Seq.{take-length}
-use Rattle.eco_ids.specs.declared.id.Id.{Id}
-use Rattle.eco_ids.specs.declared.id.Id.TheVariants.{One}
+use Rattle.eco_traits.proofs.Common.{common_steps, arith, unwrap_or, take-length, Id, One}
 use Rattle.eco_traits.proofs.Joined.{without_each, each_out, all_out, behind_either, fold_more}
-use Rattle.eco_traits.proofs.target.kept.Goals as goal
 use Rattle.eco_traits.proofs.target.kept.Goals.{then-is_replaced+in_ok-without, else-is_replaced}
+use Rattle.eco_traits.proofs.target.kept.Goals as goal
 
 -- what a read past the end of the ids would be
 abbrev least_id : Id

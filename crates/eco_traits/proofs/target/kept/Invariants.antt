@@ -1,5 +1,4 @@
-use Rattle.std.proofs.Common.{◌≡◌, fold, take, unwrap_or}
-use Rattle.eco_ids.specs.Step.{is_replaced}
+use Rattle.eco_traits.proofs.Common.{◌≡◌, fold, take, unwrap_or, is_replaced}
 use Rattle.eco_traits.proofs.Joined.{without_each}
 use Rattle.eco_traits.proofs.target.kept.Given as goal
 

@@ -1,6 +1,4 @@
-use Rattle.std.proofs.Common.{subst, ◌∙◌}
-use Rattle.std.proofs.lemmas.Result.{err_from_is_err_and}
-use Rattle.eco_traits.specs.Target.{IsAmong}
+use Rattle.eco_traits.proofs.Common.{subst, ◌∙◌, err_from_is_err_and, IsAmong}
 use Rattle.eco_traits.proofs.Walks.{has_listed}
 use Rattle.eco_traits.proofs.target.new_target.Goals as goal
 

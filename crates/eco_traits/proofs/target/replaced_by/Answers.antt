@@ -1,7 +1,5 @@
-use Rattle.std.proofs.Common.{not, ◌&&◌, find, sym, ap, ◌∙◌}
-use Rattle.std.specs.List.{list_any}
-use Rattle.eco_ids.specs.Order.{id_eq}
-use Rattle.eco_ids.specs.Step.{is_pair_of}
+use Rattle.eco_traits.proofs.Common.{not, ◌&&◌, sym, ap, ◌∙◌, list_any, id_eq, is_pair_of}
+use Rattle.std.proofs.Common.{find}
 use Rattle.eco_traits.proofs.Replaced.{all_stay, is_among, some_goes, none_goes, one_goes}
 use Rattle.eco_traits.proofs.target.replaced_by.Goals as goal
 

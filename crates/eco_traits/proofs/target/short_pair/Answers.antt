@@ -1,4 +1,4 @@
-use Rattle.std.proofs.Common.{false, sym, ◌∙◌, true≢false}
+use Rattle.eco_traits.proofs.Common.{false, sym, ◌∙◌, true≢false}
 use Rattle.eco_traits.proofs.Members.{same_truth}
 use Rattle.eco_traits.proofs.Replaced.{replaces}
 use Rattle.eco_traits.proofs.target.short_pair.Goals as goal

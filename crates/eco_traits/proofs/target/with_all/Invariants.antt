@@ -1,5 +1,4 @@
-use Rattle.std.proofs.Common.{◌≡◌, fold, take}
-use Rattle.eco_ids.specs.Order.{id_cmp, with_item}
+use Rattle.eco_traits.proofs.Common.{◌≡◌, fold, take, id_cmp, with_item}
 use Rattle.eco_traits.proofs.target.with_all.Given as goal
 
 abbrev pub invariant-loop-id : goal.invariant-loop-id

@@ -1,5 +1,4 @@
-use Rattle.std.proofs.Common.{sym, ◌∙◌}
-use Rattle.eco_ids.specs.Edition.{late_traits}
+use Rattle.eco_traits.proofs.Common.{sym, ◌∙◌, late_traits}
 use Rattle.eco_traits.proofs.Verdicts.{none_late}
 use Rattle.eco_traits.proofs.verdict.any_late.Goals as goal
 

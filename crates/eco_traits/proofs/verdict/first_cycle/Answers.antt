@@ -1,7 +1,4 @@
-use Rattle.std.proofs.Common.{◌≡◌, length, take, ap, ◌∙◌, subst, arith}
-use Rattle.std.proofs.Math.Seq.{take-length}
-use Rattle.eco_ids.specs.declared.id.Id.{Id}
-use Rattle.eco_ids.specs.declared.id.Id.TheVariants.{One}
+use Rattle.eco_traits.proofs.Common.{◌≡◌, length, take, ap, ◌∙◌, subst, arith, take-length, Id, One}
 use Rattle.eco_traits.proofs.Verdicts.{none_more, first_found, no_cycle, NoneCloses}
 use Rattle.eco_traits.proofs.verdict.first_cycle.Goals as goal
 

@@ -1,4 +1,4 @@
-use Rattle.std.proofs.Common.{take}
+use Rattle.eco_traits.proofs.Common.{take}
 use Rattle.eco_traits.proofs.Verdicts.{NoneCloses}
 use Rattle.eco_traits.proofs.verdict.first_cycle.Given as goal
 

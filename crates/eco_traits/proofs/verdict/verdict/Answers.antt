@@ -1,6 +1,4 @@
-use Rattle.eco_ids.specs.declared.refusal.Refusal.TheVariants.{TraitClash}
-use Rattle.std.proofs.Common.{true, false, Some, None, refl, sym, ◌∙◌, subst}
-use Rattle.eco_ids.specs.Step.{IsFirstCycle, grown}
+use Rattle.eco_traits.proofs.Common.{TraitClash, true, false, Some, None, refl, sym, ◌∙◌, subst, IsFirstCycle, grown}
 use Rattle.eco_traits.proofs.Verdicts.{clash_seen, judged_cycle}
 use Rattle.eco_traits.proofs.verdict.verdict.Goals as goal
 

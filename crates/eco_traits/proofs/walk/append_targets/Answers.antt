@@ -1,12 +1,8 @@
-use Rattle.std.proofs.Common.{◌≡◌, ◌++◌, sym, ap, ◌∙◌, subst, option_to_list}
-use Rattle.std.proofs.Math.Bool.{or-false}
-use Rattle.std.proofs.lemmas.List.{append-nil, take_all}
-use Rattle.std.proofs.lemmas.Result.{err_from_is_err_and}
-use Rattle.eco_ids.specs.Order.{entity_cmp, has_item}
-use Rattle.eco_traits.specs.Target.{AppendsTargets}
+use Rattle.eco_traits.proofs.Common.{◌≡◌, ◌++◌, sym, ap, ◌∙◌, subst, option_to_list, or-false, append-nil, take_all, err_from_is_err_and}
+use Rattle.eco_traits.proofs.Common.{entity_cmp, has_item, AppendsTargets}
 use Rattle.eco_traits.proofs.Walks.{targets_more}
-use Rattle.eco_traits.proofs.walk.append_targets.Goals as goal
 use Rattle.eco_traits.proofs.walk.append_targets.Goals.{in-Some+in_ok-push, in_default}
+use Rattle.eco_traits.proofs.walk.append_targets.Goals as goal
 
 pub loop-id-init : goal.loop-id-init
 loop-id-init c = λ b. sym (or-false _)

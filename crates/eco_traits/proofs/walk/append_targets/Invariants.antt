@@ -1,7 +1,4 @@
-use Rattle.std.proofs.Common.{◌≡◌, ◌||◌, take}
-use Rattle.eco_ids.specs.declared.entity.Entity.{Entity}
-use Rattle.eco_ids.specs.declared.id.Id.TheVariants.{Two}
-use Rattle.eco_ids.specs.Order.{entity_cmp, has_item, id_cmp}
+use Rattle.eco_traits.proofs.Common.{◌≡◌, ◌||◌, take, Entity, Two, entity_cmp, has_item, id_cmp}
 use Rattle.eco_traits.proofs.walk.append_targets.Given as goal
 
 abbrev pub invariant-loop-id : goal.invariant-loop-id

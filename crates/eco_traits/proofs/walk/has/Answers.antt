@@ -1,4 +1,4 @@
-use Rattle.std.proofs.Common.{sym, ◌∙◌}
+use Rattle.eco_traits.proofs.Common.{sym, ◌∙◌}
 use Rattle.eco_traits.proofs.Walks.{has_listed, has_nothing}
 use Rattle.eco_traits.proofs.walk.has.Goals as goal
 

@@ -1,7 +1,4 @@
-use Rattle.std.proofs.Common.{sym, ap, ◌∙◌}
-use Rattle.std.specs.List.{list_any}
-use Rattle.eco_ids.specs.declared.id.Id.TheVariants.{Two}
-use Rattle.eco_ids.specs.Step.{is_pair_of}
+use Rattle.eco_traits.proofs.Common.{sym, ap, ◌∙◌, list_any, Two, is_pair_of}
 use Rattle.eco_traits.proofs.Replaced.{no_pair}
 use Rattle.eco_traits.proofs.Walks.{has_listed}
 use Rattle.eco_traits.proofs.walk.may_lead_on.Goals as goal

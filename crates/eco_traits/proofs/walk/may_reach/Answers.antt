@@ -1,4 +1,4 @@
-use Rattle.std.proofs.Common.{sym, ◌∙◌, true≢false}
+use Rattle.eco_traits.proofs.Common.{sym, ◌∙◌, true≢false}
 use Rattle.eco_traits.proofs.Replaced.{leads_nowhere}
 use Rattle.eco_traits.proofs.walk.may_reach.Goals as goal
 

@@ -1,5 +1,4 @@
-use Rattle.std.proofs.Common.{sym, ◌∙◌}
-use Rattle.std.proofs.lemmas.Result.{IfOk-weaker}
+use Rattle.eco_traits.proofs.Common.{sym, ◌∙◌, IfOk-weaker}
 use Rattle.eco_traits.proofs.Members.{list_any-derived}
 use Rattle.eco_traits.proofs.Walks.{from_one}
 use Rattle.eco_traits.proofs.walk.reached.Goals as goal

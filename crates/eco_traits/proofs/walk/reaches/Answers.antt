@@ -1,6 +1,4 @@
-use Rattle.std.proofs.Common.{refl, sym}
-use Rattle.std.proofs.lemmas.Result.{IfOk-weaker}
-use Rattle.eco_ids.specs.Least.{root}
+use Rattle.eco_traits.proofs.Common.{refl, sym, IfOk-weaker, root}
 use Rattle.eco_traits.proofs.Walks.{from_one}
 use Rattle.eco_traits.proofs.walk.reaches.Goals as goal
 

@@ -1,5 +1,4 @@
-use Rattle.std.proofs.Common.{◌-◌, ap, arith, refl, sym, ◌∙◌}
-use Rattle.std.proofs.lemmas.Result.{err_from_is_err_and}
+use Rattle.eco_workers.proofs.Common.{◌-◌, ap, arith, refl, sym, ◌∙◌, err_from_is_err_and}
 use Rattle.eco_workers.proofs.Turns.{turn_more, turn_none, turn_out}
 use Rattle.eco_workers.proofs.alone.record_all.Goals as goal
 

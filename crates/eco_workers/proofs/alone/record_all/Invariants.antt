@@ -1,6 +1,4 @@
-use Rattle.std.proofs.Common.{◌≡◌, ◌-◌, false, take}
-use Rattle.eco_workers.specs.Alone.{IsInTurn}
-use Rattle.eco_stages.specs.Taking.{by_index}
+use Rattle.eco_workers.proofs.Common.{◌≡◌, ◌-◌, false, take, IsInTurn, by_index}
 use Rattle.eco_workers.proofs.alone.record_all.Given as goal
 
 -- the pieces so far

@@ -1,13 +1,6 @@
-use Rattle.std.proofs.Common.{◌≡◌, List, length, length-append, [], ◌∷◌, ap, ◌∙◌, sym, subst, arith, rules}
-use Rattle.std.specs.List.{All}
-use Rattle.std.proofs.lemmas.List.{nil_from_length}
-use Rattle.std.proofs.lemmas.List.Elements.{All-push, All-nil}
-use Rattle.eco_workers.specs.Rounds.{IsSeatOf}
+use Rattle.eco_workers.proofs.Common.{◌≡◌, List, length, length-append, [], ◌∷◌, ap, ◌∙◌, sym, subst, arith, rules, All, nil_from_length}
+use Rattle.eco_workers.proofs.Common.{All-push, All-nil, IsSeatOf, Seat, Worked, by_index, IsWorked}
 use Rattle.eco_workers.proofs.Popped.{popped_all}
-use Rattle.eco_workers.specs.declared.seat.Seat.{Seat}
-use Rattle.eco_workers.specs.declared.worked.Worked.{Worked}
-use Rattle.eco_stages.specs.Taking.{by_index}
-use Rattle.eco_workers.specs.Workers.{IsWorked}
 use Rattle.eco_workers.proofs.Shared.{IsSearched, searched_none, searched_more, searched_all}
 use Rattle.eco_workers.proofs.batch.all_seats.Goals as goal
 

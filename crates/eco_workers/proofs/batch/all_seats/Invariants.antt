@@ -1,8 +1,4 @@
-use Rattle.std.proofs.Common.{◌≡◌, ◌+◌, ◌≤◌, length}
-use Rattle.std.specs.List.{All}
-use Rattle.eco_workers.specs.Rounds.{IsSeatOf}
-use Rattle.eco_stages.specs.Taking.{by_index}
-use Rattle.eco_workers.specs.Workers.{IsWorked}
+use Rattle.eco_workers.proofs.Common.{◌≡◌, ◌+◌, ◌≤◌, length, All, IsSeatOf, by_index, IsWorked}
 use Rattle.eco_workers.proofs.Shared.{IsSearched}
 use Rattle.eco_workers.proofs.batch.all_seats.Given as goal
 

@@ -1,8 +1,5 @@
-use Rattle.std.proofs.Common.{◌<◌, List, length, [], replicate, sym, ap, ◌∙◌, subst, arith}
-use Rattle.eco_workers.specs.declared.collected.Collected.{Collected}
-use Rattle.eco_stages.specs.Taking.{by_index}
-use Rattle.eco_workers.specs.Rounds.{base_of, seats_of}
-use Rattle.eco_workers.specs.Batches.{IsBatch, placed_stages}
+use Rattle.eco_workers.proofs.Common.{◌<◌, List, length, [], replicate, sym, ap, ◌∙◌, subst, arith, Collected, by_index, base_of, seats_of, IsBatch}
+use Rattle.eco_workers.proofs.Common.{placed_stages}
 use Rattle.eco_workers.proofs.Gathered.{all_claimed}
 use Rattle.eco_workers.proofs.Placed.{batch_made, within_pieces}
 use Rattle.eco_workers.proofs.batch.collect.Goals as goal

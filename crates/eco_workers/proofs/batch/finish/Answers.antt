@@ -1,12 +1,4 @@
-use Rattle.std.proofs.Common.{List, ap, ◌∙◌, subst}
-use Rattle.std.specs.List.{Contains}
-use Rattle.eco_ids.specs.declared.refusal.Refusal.TheVariants.{NoMoreIds}
-use Rattle.eco_stages.specs.Taking.{by_index}
-use Rattle.eco_workers.specs.Counting.{once}
-use Rattle.eco_workers.specs.Rounds.{base_of, limit_of}
-use Rattle.eco_workers.specs.Workers.{ends_of, IsStop}
-use Rattle.eco_workers.specs.declared.worked.Worked.{Worked}
-use Rattle.eco_workers.specs.declared.end.End.TheVariants.{Refused}
+use Rattle.eco_workers.proofs.Common.{List, ap, ◌∙◌, subst, Contains, NoMoreIds, by_index, once, base_of, limit_of, ends_of, IsStop, Worked, Refused}
 use Rattle.eco_workers.proofs.Placed.{out_made}
 use Rattle.eco_workers.proofs.Shared.{out_found, stop_for_want}
 use Rattle.eco_workers.proofs.batch.finish.Goals as goal

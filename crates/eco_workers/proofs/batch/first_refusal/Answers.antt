@@ -1,5 +1,4 @@
-use Rattle.std.proofs.Common.{take}
-use Rattle.eco_workers.specs.Workers.{ends_of}
+use Rattle.eco_workers.proofs.Common.{take, ends_of}
 use Rattle.eco_workers.proofs.Stops.{found_none, found_more, stop_refused, stop_full, none_stopped}
 use Rattle.eco_workers.proofs.batch.first_refusal.Goals as goal
 

@@ -1,5 +1,4 @@
-use Rattle.std.proofs.Common.{take}
-use Rattle.eco_workers.specs.Workers.{ends_of, IsFound}
+use Rattle.eco_workers.proofs.Common.{take, ends_of, IsFound}
 use Rattle.eco_workers.proofs.batch.first_refusal.Given as goal
 
 abbrev pub invariant-loop-one : goal.invariant-loop-one

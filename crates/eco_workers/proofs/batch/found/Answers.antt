@@ -1,4 +1,4 @@
-use Rattle.std.proofs.Common.{arith}
+use Rattle.eco_workers.proofs.Common.{arith}
 use Rattle.eco_workers.proofs.Stops.{found_done, found_full, found_first, found_less, found_later}
 use Rattle.eco_workers.proofs.batch.found.Goals as goal
 

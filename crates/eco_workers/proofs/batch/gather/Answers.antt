@@ -1,14 +1,6 @@
-use Rattle.std.proofs.Common.{◌≡◌, true, length, length-append, [], ◌∷◌, ◌++◌, ap, ◌∙◌, sym, subst, arith, rules}
-use Rattle.std.specs.List.{All}
-use Rattle.std.proofs.lemmas.List.Elements.{All-push, All-nil}
-use Rattle.eco_workers.specs.declared.seat.Seat.{Seat}
-use Rattle.eco_workers.specs.Rounds.{is_done, IsSeatOf}
+use Rattle.eco_workers.proofs.Common.{◌≡◌, true, length, length-append, [], ◌∷◌, ◌++◌, ap, ◌∙◌, sym, subst, arith, rules, All, All-push}
+use Rattle.eco_workers.proofs.Common.{All-nil, Seat, is_done, IsSeatOf, Worked, End, Done, by_index, IsWorked, HasEnded}
 use Rattle.eco_workers.proofs.Popped.{popped_all}
-use Rattle.eco_workers.specs.declared.worked.Worked.{Worked}
-use Rattle.eco_workers.specs.declared.end.End.{End}
-use Rattle.eco_workers.specs.declared.end.End.TheVariants.{Done}
-use Rattle.eco_stages.specs.Taking.{by_index}
-use Rattle.eco_workers.specs.Workers.{IsWorked, HasEnded}
 use Rattle.eco_workers.proofs.Gathered.{gathered_none, gathered_more}
 use Rattle.eco_workers.proofs.batch.gather.Goals as goal
 

@@ -1,10 +1,4 @@
-use Rattle.std.proofs.Common.{◌≡◌, ◌+◌, ◌≤◌, true, length, List}
-use Rattle.std.specs.List.{All}
-use Rattle.eco_workers.specs.Rounds.{is_done, IsSeatOf}
-use Rattle.eco_workers.specs.declared.end.End.TheVariants.{Done}
-use Rattle.eco_stages.specs.Taking.{by_index}
-use Rattle.eco_workers.specs.Entries.{Entry, IsGathered}
-use Rattle.eco_workers.specs.Workers.{IsWorked}
+use Rattle.eco_workers.proofs.Common.{◌≡◌, ◌+◌, ◌≤◌, true, length, List, All, is_done, IsSeatOf, Done, by_index, Entry, IsGathered, IsWorked}
 use Rattle.eco_workers.proofs.batch.gather.Given as goal
 
 abbrev pub invariant-loop-one : goal.invariant-loop-one

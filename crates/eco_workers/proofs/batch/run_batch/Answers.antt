@@ -1,10 +1,4 @@
-use Rattle.std.proofs.Common.{◌≡◌, sym, ◌∙◌, subst, arith, IfErr}
-use Rattle.std.proofs.lemmas.Result.{IfOk-weaker}
-use Rattle.eco_ids.specs.declared.refusal.Refusal.{Refusal}
-use Rattle.eco_ids.specs.declared.refusal.Refusal.TheVariants.{NoMoreIds}
-use Rattle.eco_stages.specs.Taking.{by_index}
-use Rattle.eco_workers.specs.Rounds.{base_of, seats_of}
-use Rattle.eco_workers.specs.Batches.{IsOut}
+use Rattle.eco_workers.proofs.Common.{◌≡◌, sym, ◌∙◌, subst, arith, IfErr, IfOk-weaker, Refusal, NoMoreIds, by_index, base_of, seats_of, IsOut}
 use Rattle.eco_workers.proofs.Placed.{batch_by}
 use Rattle.eco_workers.proofs.batch.run_batch.Goals as goal
 

@@ -1,10 +1,6 @@
-use Rattle.std.proofs.Common.{◌≡◌, ◌+◌, ◌∷◌, ◌++◌, [], length, length-append, ap, ◌∙◌, sym, subst, arith, vec_len, IfOk}
-use Rattle.std.specs.List.{All}
+use Rattle.eco_workers.proofs.Common.{◌≡◌, ◌+◌, ◌∷◌, ◌++◌, [], length, length-append, ap, ◌∙◌, sym, subst, arith, vec_len, IfOk, All}
+use Rattle.eco_workers.proofs.Common.{All-push, Worked, by_index, IsNewJobOf, IsWorked}
 use Rattle.std.specs.Option.{option_to_list}
-use Rattle.std.proofs.lemmas.List.Elements.{All-push}
-use Rattle.eco_workers.specs.declared.worked.Worked.{Worked}
-use Rattle.eco_stages.specs.Taking.{by_index}
-use Rattle.eco_workers.specs.Workers.{IsNewJobOf, IsWorked}
 use Rattle.eco_workers.proofs.Popped.{popped_all}
 use Rattle.eco_workers.proofs.batch.work_all.Goals as goal
 

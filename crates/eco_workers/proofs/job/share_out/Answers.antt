@@ -1,8 +1,5 @@
-use Rattle.std.proofs.Common.{length, length-append, [], ◌∷◌, ap, ◌∙◌, sym, subst, arith, rules}
-use Rattle.std.specs.List.{All}
-use Rattle.std.proofs.lemmas.List.Elements.{All-push, All-nil}
-use Rattle.eco_workers.specs.Rounds.{IsNewSeatOf}
-use Rattle.eco_workers.specs.Workers.{IsNewJobOf}
+use Rattle.eco_workers.proofs.Common.{length, length-append, [], ◌∷◌, ap, ◌∙◌, sym, subst, arith, rules, All, All-push, All-nil, IsNewSeatOf}
+use Rattle.eco_workers.proofs.Common.{IsNewJobOf}
 use Rattle.eco_workers.proofs.Popped.{popped_all}
 use Rattle.eco_workers.proofs.job.share_out.Goals as goal
 

@@ -1,7 +1,4 @@
-use Rattle.std.proofs.Common.{◌≡◌, ◌+◌, ◌≤◌, length}
-use Rattle.std.specs.List.{All}
-use Rattle.eco_workers.specs.Rounds.{IsNewSeatOf}
-use Rattle.eco_workers.specs.Workers.{IsNewJobOf}
+use Rattle.eco_workers.proofs.Common.{◌≡◌, ◌+◌, ◌≤◌, length, All, IsNewSeatOf, IsNewJobOf}
 use Rattle.eco_workers.proofs.job.share_out.Given as goal
 
 abbrev pub invariant-loop-seat : goal.invariant-loop-seat

@@ -1,4 +1,4 @@
-use Rattle.std.proofs.Common.{arith}
+use Rattle.eco_workers.proofs.Common.{arith}
 use Rattle.eco_workers.proofs.Placed.{empty_more}
 use Rattle.eco_workers.proofs.order.empty_stages.Goals as goal
 

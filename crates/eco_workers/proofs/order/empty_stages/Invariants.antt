@@ -1,4 +1,4 @@
-use Rattle.std.proofs.Common.{◌≡◌, ◌≤◌, [], replicate}
+use Rattle.eco_workers.proofs.Common.{◌≡◌, ◌≤◌, [], replicate}
 use Rattle.eco_workers.proofs.order.empty_stages.Given as goal
 
 abbrev pub invariant-loop : goal.invariant-loop

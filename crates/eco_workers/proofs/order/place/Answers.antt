@@ -1,8 +1,5 @@
-use Rattle.std.proofs.Common.{◌≡◌, ◌∷◌, [], ◌++◌, List, sym, ap, ◌∙◌, append_assoc, arith, replicate, set}
-use Rattle.std.proofs.lemmas.List.{append-nil, nil_from_length}
-use Rattle.std.specs.Vec.Iter.{into_iter_items}
-use Rattle.eco_ids.specs.Run.{Command}
-use Rattle.eco_workers.specs.Batches.{placed_stages}
+use Rattle.eco_workers.proofs.Common.{◌≡◌, ◌∷◌, [], ◌++◌, List, sym, ap, ◌∙◌, append_assoc, arith, replicate, set, append-nil}
+use Rattle.eco_workers.proofs.Common.{nil_from_length, into_iter_items, Command, placed_stages}
 use Rattle.eco_workers.proofs.Placed.{number_within, placed_push}
 use Rattle.eco_workers.proofs.order.place.Goals as goal
 

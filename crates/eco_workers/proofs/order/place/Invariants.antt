@@ -1,6 +1,4 @@
-use Rattle.std.proofs.Common.{◌≡◌, ◌++◌, [], replicate}
-use Rattle.std.specs.Vec.Iter.{into_iter_items}
-use Rattle.eco_workers.specs.Batches.{placed_stages}
+use Rattle.eco_workers.proofs.Common.{◌≡◌, ◌++◌, [], replicate, into_iter_items, placed_stages}
 use Rattle.eco_workers.proofs.order.place.Given as goal
 
 abbrev pub invariant-loop-piece : goal.invariant-loop-piece

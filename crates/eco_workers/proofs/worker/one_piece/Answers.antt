@@ -1,6 +1,4 @@
-use Rattle.std.proofs.Common.{refl}
-use Rattle.std.proofs.lemmas.Option.{slice_get_read}
-use Rattle.std.proofs.lemmas.Result.{err_from_is_err_and}
+use Rattle.eco_workers.proofs.Common.{refl, slice_get_read, err_from_is_err_and}
 use Rattle.eco_workers.proofs.worker.one_piece.Goals as goal
 
 pub returns-clause-piece : goal.returns-clause-piece

@@ -1,8 +1,5 @@
-use Rattle.std.proofs.Common.{ap}
-use Rattle.std.proofs.lemmas.Result.{err_from_is_err_and}
+use Rattle.eco_workers.proofs.Common.{ap, err_from_is_err_and, Ticket, drawn, is_dry}
 use Rattle.eco_workers.specs.declared.round.Round.{Round}
-use Rattle.eco_workers.specs.declared.ticket.Ticket.{Ticket}
-use Rattle.eco_workers.specs.Rounds.{drawn, is_dry}
 use Rattle.eco_workers.proofs.Drawn.{broke_indices, is_stopped, took_indices}
 use Rattle.eco_workers.proofs.worker.record.Goals as goal
 

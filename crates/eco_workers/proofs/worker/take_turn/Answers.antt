@@ -1,8 +1,5 @@
-use Rattle.std.proofs.Common.{◌≡◌, ℕ, ◌<◌, List, [], ◌∷◌, ◌++◌, length, length-append, ap, sym, ◌∙◌, subst}
-use Rattle.eco_workers.specs.declared.ticket.Ticket.{Ticket}
-use Rattle.eco_workers.specs.Rounds.{claimed, drawn}
-use Rattle.eco_stages.specs.Taking.{by_index}
-use Rattle.eco_workers.specs.Entries.{entry_of}
+use Rattle.eco_workers.proofs.Common.{◌≡◌, ℕ, ◌<◌, List, [], ◌∷◌, ◌++◌, length, length-append, ap, sym, ◌∙◌, subst, Ticket, claimed}
+use Rattle.eco_workers.proofs.Common.{drawn, by_index, entry_of}
 use Rattle.eco_workers.proofs.Logs.{log_push, log_same, stopped, broken}
 use Rattle.eco_workers.proofs.worker.take_turn.Goals as goal
 

@@ -1,6 +1,4 @@
-use Rattle.std.proofs.Common.{arith}
-use Rattle.eco_workers.specs.Rounds.{claimed, drawn}
-use Rattle.eco_stages.specs.Taking.{by_index}
+use Rattle.eco_workers.proofs.Common.{arith, claimed, drawn, by_index}
 use Rattle.eco_workers.proofs.Logs.{few_claims}
 use Rattle.eco_workers.proofs.worker.turns.Goals as goal
 

@@ -1,7 +1,4 @@
-use Rattle.std.proofs.Common.{◌≡◌, ◌+◌, length}
-use Rattle.eco_workers.specs.Rounds.{claimed}
-use Rattle.eco_stages.specs.Taking.{by_index}
-use Rattle.eco_workers.specs.Workers.{IsGoing}
+use Rattle.eco_workers.proofs.Common.{◌≡◌, ◌+◌, length, claimed, by_index, IsGoing}
 use Rattle.eco_workers.proofs.worker.turns.Given as goal
 
 abbrev pub invariant-loop : goal.invariant-loop

@@ -1,8 +1,4 @@
-use Rattle.std.proofs.Common.{Some, arith, refl}
-use Rattle.std.proofs.lemmas.Result.{err_from_is_err_and}
-use Rattle.eco_ids.specs.Births.{may_make}
-use Rattle.eco_store.specs.Store.{record_name}
-use Rattle.eco_world.specs.Builtins.{first_entities}
+use Rattle.eco_world.proofs.Common.{Some, arith, refl, err_from_is_err_and, may_make, record_name, first_entities}
 use Rattle.eco_world.proofs.Starting.{builtin_made, builtin_refused}
 use Rattle.eco_world.proofs.builtins.builtin_store.Goals as goal
 

@@ -1,5 +1,4 @@
-use Rattle.std.proofs.Common.{◌≡◌}
-use Rattle.eco_world.specs.Builtins.{first_entities}
+use Rattle.eco_world.proofs.Common.{◌≡◌, first_entities}
 use Rattle.eco_world.proofs.builtins.builtin_store.Given as goal
 
 abbrev pub invariant-loop-number : goal.invariant-loop-number

@@ -1,4 +1,4 @@
-use Rattle.std.proofs.Common.{ap, length, nat_lt}
+use Rattle.eco_world.proofs.Common.{ap, length, nat_lt}
 use Rattle.eco_world.proofs.Exact.{added, absent, wanting}
 use Rattle.eco_world.proofs.laws.added_queries_are_found.Goals as goal
 

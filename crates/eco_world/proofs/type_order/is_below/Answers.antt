@@ -1,5 +1,4 @@
-use Rattle.std.proofs.Common.{sym, ◌∙◌, arith}
-use Rattle.eco_ids.specs.Order.{id_cmp}
+use Rattle.eco_world.proofs.Common.{sym, ◌∙◌, arith, id_cmp}
 use Rattle.eco_world.proofs.TypeOrder.{found, over, passed}
 use Rattle.eco_world.proofs.type_order.is_below.Goals as goal
 

@@ -1,7 +1,4 @@
-use Rattle.std.proofs.Common.{◌≡◌, ◌≤◌, length, min}
-use Rattle.std.specs.Cmp.Lexicographic.{slice_cmp}
-use Rattle.std.proofs.cmp.SliceLoops.{Rest}
-use Rattle.eco_ids.specs.Order.{id_cmp}
+use Rattle.eco_world.proofs.Common.{◌≡◌, ◌≤◌, length, min, slice_cmp, Rest, id_cmp}
 use Rattle.eco_world.proofs.type_order.is_below.Given as goal
 
 abbrev pub invariant-loop-place : goal.invariant-loop-place

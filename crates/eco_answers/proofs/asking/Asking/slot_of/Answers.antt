@@ -1,11 +1,5 @@
-use Rattle.std.proofs.Common.{◌≡◌, Option, Bor, sym, ◌∙◌, subst}
-use Rattle.std.specs.Prelude.{IsSome}
-use Rattle.eco_query.specs.declared.slot.Slot.{Slot}
-use Rattle.eco_query.specs.Queries.{patterns_of, term_view}
-use Rattle.eco_index.specs.TypeTests.{group_at}
-use Rattle.eco_answers.specs.Groups.{groups_of}
+use Rattle.eco_answers.proofs.Common.{◌≡◌, Option, Bor, sym, ◌∙◌, subst, IsSome, Slot, patterns_of, term_view, group_at, groups_of, same_Some}
 use Rattle.eco_answers.proofs.Groups.{group_is}
-use Rattle.std.proofs.lemmas.Option.{same_Some}
 use Rattle.eco_answers.proofs.asking.Asking.slot_of.Goals as goal
 
 pub unwrap-requires : goal.unwrap-requires

@@ -1,5 +1,4 @@
-use Rattle.std.proofs.Common.{◌∙◌, ap, length, ◌≡◌}
-use Rattle.eco_answers.specs.Groups.{groups_of}
+use Rattle.eco_answers.proofs.Common.{◌∙◌, ap, length, ◌≡◌, groups_of}
 use Rattle.eco_answers.proofs.Groups.{groups_length, groups_needed, some_group}
 use Rattle.eco_answers.proofs.asking.AskingTypeTest.group_count.Goals as goal
 

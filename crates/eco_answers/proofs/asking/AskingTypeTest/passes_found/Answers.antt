@@ -1,4 +1,4 @@
-use Rattle.std.proofs.Common.{◌∙◌}
+use Rattle.eco_answers.proofs.Common.{◌∙◌}
 use Rattle.eco_answers.proofs.Groups.{others_suffice}
 use Rattle.eco_answers.proofs.asking.AskingTypeTest.passes_found.Goals as goal
 

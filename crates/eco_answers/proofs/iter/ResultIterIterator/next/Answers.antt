@@ -1,8 +1,7 @@
-use Rattle.std.proofs.Common.{◌∷◌, [], map, sym, ap, ◌∙◌}
+use Rattle.eco_answers.proofs.Common.{◌∷◌, [], map, sym, ap, ◌∙◌, shown}
 use Rattle.std.proofs.lemmas.Option.{get_or_from_slice_get}
-use Rattle.eco_ids.specs.Answer as answers
-use Rattle.eco_answers.specs.Blocks.{shown}
 use Rattle.eco_answers.proofs.Blocked.{rest_within}
+use Rattle.eco_ids.specs.Answer as answers
 use Rattle.eco_answers.proofs.iter.ResultIterIterator.next.Goals as goal
 
 pub invariant_of-self-2 : goal.invariant_of-self-2

@@ -1,5 +1,4 @@
-use Rattle.eco_ids.proofs.Results.{on_ok}
-use Rattle.eco_index.specs.TypeTests.{group_at}
+use Rattle.eco_archetypes.proofs.Common.{on_ok, group_at}
 use Rattle.eco_archetypes.proofs.Searching.{all_more, listed_match}
 use Rattle.eco_archetypes.proofs.archetypes.Archetypes.add_found.Goals as goal
 

@@ -1,7 +1,4 @@
-use Rattle.std.proofs.Common.{arith, sym, take, ◌∙◌}
-use Rattle.std.proofs.lemmas.Grind.{common_steps}
-use Rattle.eco_ids.proofs.Results.{err_says}
-use Rattle.eco_index.specs.TypeTests.{group_at}
+use Rattle.eco_archetypes.proofs.Common.{arith, sym, take, ◌∙◌, common_steps, err_says, group_at}
 use Rattle.eco_archetypes.proofs.Searching.{new_found}
 use Rattle.eco_archetypes.proofs.archetypes.Archetypes.add_new.Goals as goal
 

@@ -1,6 +1,4 @@
-use Rattle.std.proofs.Common.{◌≡◌, ◌++◌, filter, take}
-use Rattle.eco_index.specs.TypeTests.{group_at, passes_without}
-use Rattle.eco_archetypes.specs.Archetypes.{is_found_in}
+use Rattle.eco_archetypes.proofs.Common.{◌≡◌, ◌++◌, filter, take, group_at, passes_without, is_found_in}
 use Rattle.eco_archetypes.proofs.archetypes.Archetypes.add_new.Given as goal
 
 abbrev pub invariant-loop-slot : goal.invariant-loop-slot

@@ -1,7 +1,4 @@
-use Rattle.std.proofs.Common.{List, ℕ, Option}
-use Rattle.eco_ids.specs.declared.id.Id.{Id}
-use Rattle.eco_caches.specs.Caching.{AreExact, AreThose}
-use Rattle.eco_archetypes.specs.Archetypes.{type_at, ArePassing}
+use Rattle.eco_archetypes.proofs.Common.{List, ℕ, Option, Id, AreExact, AreThose, type_at, ArePassing}
 use Rattle.eco_archetypes.proofs.Cached.{if_some, passing_those}
 use Rattle.eco_archetypes.proofs.archetypes.Archetypes.cached.Goals as goal
 

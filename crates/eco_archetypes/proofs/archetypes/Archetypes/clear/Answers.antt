@@ -1,4 +1,4 @@
-use Rattle.std.proofs.Common.{inl, refl}
+use Rattle.eco_archetypes.proofs.Common.{inl, refl}
 use Rattle.eco_archetypes.proofs.ArchetypeLemmas.{found_set}
 use Rattle.eco_archetypes.proofs.Widths.{kept_widths, sets_kept}
 use Rattle.eco_archetypes.proofs.archetypes.Archetypes.clear.Goals as goal

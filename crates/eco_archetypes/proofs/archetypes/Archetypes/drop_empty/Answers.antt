@@ -1,4 +1,4 @@
-use Rattle.eco_tables.specs.Tables.{slot_of, rowless_type}
+use Rattle.eco_archetypes.proofs.Common.{slot_of, rowless_type}
 use Rattle.eco_archetypes.proofs.Widths.{dropped_widths}
 use Rattle.eco_archetypes.proofs.archetypes.Archetypes.drop_empty.Goals as goal
 

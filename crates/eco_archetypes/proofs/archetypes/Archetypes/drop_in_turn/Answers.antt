@@ -1,6 +1,4 @@
-use Rattle.std.proofs.Common.{◌∷◌, [], take, get_or, refl, sym, ◌∙◌, subst, take_all}
-use Rattle.std.proofs.lemmas.List.{take_more, append_assoc}
-use Rattle.eco_archetypes.specs.Sweeping.{DropsRowless}
+use Rattle.eco_archetypes.proofs.Common.{◌∷◌, [], take, get_or, refl, sym, ◌∙◌, subst, take_all, take_more, append_assoc, DropsRowless}
 use Rattle.eco_archetypes.proofs.Sweeping.{drops_both, drops_none, drops_one}
 use Rattle.eco_archetypes.proofs.archetypes.Archetypes.drop_in_turn.Goals as goal
 

@@ -1,7 +1,4 @@
-use Rattle.std.proofs.Common.{ℕ, List, ◌++◌, take}
-use Rattle.eco_archetypes.specs.Archetypes.{RowlessIn, SameRows}
-use Rattle.eco_archetypes.specs.Sweeping.{DropsRowless}
-use Rattle.eco_archetypes.specs.Widths.{KeepsWidths}
+use Rattle.eco_archetypes.proofs.Common.{ℕ, List, ◌++◌, take, RowlessIn, SameRows, DropsRowless, KeepsWidths}
 use Rattle.eco_archetypes.proofs.archetypes.Archetypes.drop_in_turn.Given as goal
 
 abbrev pub invariant-loop-slot : goal.invariant-loop-slot

@@ -1,4 +1,4 @@
-use Rattle.eco_index.specs.IdIndex.{lists_of}
+use Rattle.eco_archetypes.proofs.Common.{lists_of}
 use Rattle.eco_archetypes.proofs.Sweeping.{found_swept}
 use Rattle.eco_archetypes.proofs.archetypes.Archetypes.drop_together.Goals as goal
 

@@ -1,6 +1,4 @@
-use Rattle.std.proofs.Common.{◌≡◌, ◌≢◌, Some, sym, ap, ◌∙◌}
-use Rattle.eco_ids.specs.Order.{id_cmp, has_item}
-use Rattle.eco_archetypes.specs.Archetypes.{type_at}
+use Rattle.eco_archetypes.proofs.Common.{◌≡◌, ◌≢◌, Some, sym, ap, ◌∙◌, id_cmp, has_item, type_at}
 use Rattle.eco_archetypes.proofs.Exchanges.{exchanged_apart}
 use Rattle.eco_archetypes.proofs.ArchetypeLemmas.{typed_table}
 use Rattle.eco_archetypes.proofs.Turnings.{if_ok}

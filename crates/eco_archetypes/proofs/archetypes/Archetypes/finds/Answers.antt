@@ -1,5 +1,4 @@
-use Rattle.std.proofs.Common.{true≢false, sym, refl, arith, ◌∙◌}
-use Rattle.eco_index.specs.TypeTests.{group_at}
+use Rattle.eco_archetypes.proofs.Common.{true≢false, sym, refl, arith, ◌∙◌, group_at}
 use Rattle.eco_archetypes.proofs.Searching.{listed_match, none_first, none_found, none_more, some_found}
 use Rattle.eco_archetypes.proofs.archetypes.Archetypes.finds.Goals as goal
 

@@ -1,6 +1,4 @@
-use Rattle.std.proofs.Common.{◌≡◌, ℕ, false, take}
-use Rattle.eco_index.specs.TypeTests.{group_at, passes_with}
-use Rattle.eco_archetypes.specs.Archetypes.{is_found_in}
+use Rattle.eco_archetypes.proofs.Common.{◌≡◌, ℕ, false, take, group_at, passes_with, is_found_in}
 use Rattle.eco_archetypes.proofs.archetypes.Archetypes.finds.Given as goal
 
 abbrev pub invariant-loop-place : goal.invariant-loop-place

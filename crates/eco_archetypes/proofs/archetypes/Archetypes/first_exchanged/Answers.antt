@@ -1,9 +1,5 @@
-use Rattle.std.proofs.Common.{◌≡◌, ◌+◌, Some, option_map, take, drop, slice_get, sym, ap, ◌∙◌}
-use Rattle.std.specs.Option.{option_copied}
-use Rattle.eco_ids.specs.Order.{id_cmp, has_item}
-use Rattle.eco_tables.specs.Table.{TableState}
-use Rattle.eco_index.specs.Edges.{exchanged}
-use Rattle.eco_archetypes.specs.Archetypes.{type_at}
+use Rattle.eco_archetypes.proofs.Common.{◌≡◌, ◌+◌, Some, option_map, take, drop, slice_get, sym, ap, ◌∙◌, option_copied, id_cmp, has_item}
+use Rattle.eco_archetypes.proofs.Common.{TableState, exchanged, type_at}
 use Rattle.eco_archetypes.proofs.Exchanges.{exchanged_apart, exchanged_is}
 use Rattle.eco_archetypes.proofs.ArchetypeLemmas.{typed_table}
 use Rattle.eco_archetypes.proofs.archetypes.Archetypes.first_exchanged.Goals as goal

@@ -1,12 +1,5 @@
-use Rattle.std.proofs.Common.{◌≡◌, ℕ, [], IfNone, IfSome, option_map, refl, ap, sym, subst, ◌∙◌}
-use Rattle.std.specs.Map.{lookup}
-use Rattle.eco_entities.specs.Needs.{need}
-use Rattle.eco_ids.specs.Order.{id_cmp, has_item}
-use Rattle.eco_tables.specs.Table.{TableState}
-use Rattle.eco_tables.specs.Tables.{slot_of, table_in}
-use Rattle.eco_index.specs.TypeMap.{LeadAlike, LeadsGrown, TakesGrown, same_ids}
-use Rattle.eco_caches.proofs.Caching.{exact_types, then_told}
-use Rattle.eco_archetypes.specs.Archetypes.{TakesType, type_at}
+use Rattle.eco_archetypes.proofs.Common.{◌≡◌, ℕ, [], IfNone, IfSome, option_map, refl, ap, sym, subst, ◌∙◌, lookup, need, id_cmp, has_item}
+use Rattle.eco_archetypes.proofs.Common.{TableState, slot_of, table_in, LeadAlike, LeadsGrown, TakesGrown, same_ids, exact_types, then_told, TakesType, type_at}
 use Rattle.eco_archetypes.proofs.ArchetypeLemmas.{found_alike, found_ready, type_there}
 use Rattle.eco_archetypes.proofs.Turnings.{found_turned, grown_back, grown_in, grown_is, grown_new, grown_taken, led_type}
 use Rattle.eco_archetypes.proofs.archetypes.Archetypes.gain_alone.Goals as goal

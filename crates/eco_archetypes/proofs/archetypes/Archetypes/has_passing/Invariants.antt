@@ -1,6 +1,4 @@
-use Rattle.std.proofs.Common.{◌≡◌, false, take}
-use Rattle.std.specs.List.{list_any}
-use Rattle.eco_archetypes.specs.Archetypes.{is_found_in}
+use Rattle.eco_archetypes.proofs.Common.{◌≡◌, false, take, list_any, is_found_in}
 use Rattle.eco_archetypes.proofs.archetypes.Archetypes.has_passing.Given as goal
 
 abbrev pub invariant-loop-slot : goal.invariant-loop-slot

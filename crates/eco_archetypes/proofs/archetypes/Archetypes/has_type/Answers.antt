@@ -1,8 +1,4 @@
-use Rattle.std.proofs.Common.{refl, sym, ap, ◌∙◌, option_map}
-use Rattle.std.specs.Option.{option_copied}
-use Rattle.eco_tables.specs.Table.{TableState}
-use Rattle.eco_index.proofs.TypeMaps.{type_decided}
-use Rattle.eco_archetypes.specs.Archetypes.{type_at}
+use Rattle.eco_archetypes.proofs.Common.{refl, sym, ap, ◌∙◌, option_map, option_copied, TableState, type_decided, type_at}
 use Rattle.eco_archetypes.proofs.archetypes.Archetypes.has_type.Goals as goal
 
 pub returns-in-Some : goal.returns-in-Some

@@ -1,6 +1,4 @@
-use Rattle.std.proofs.Common.{arith, sym, ◌∙◌}
-use Rattle.eco_index.specs.TypeTests.{group_at}
-use Rattle.eco_archetypes.specs.Archetypes.{type_at}
+use Rattle.eco_archetypes.proofs.Common.{arith, sym, ◌∙◌, group_at, type_at}
 use Rattle.eco_archetypes.proofs.Searching.{has_before, not_before}
 use Rattle.eco_archetypes.proofs.archetypes.Archetypes.is_found_before.Goals as goal
 

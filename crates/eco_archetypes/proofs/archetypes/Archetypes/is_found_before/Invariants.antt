@@ -1,6 +1,4 @@
-use Rattle.std.proofs.Common.{◌≡◌, false, take}
-use Rattle.eco_index.specs.TypeTests.{group_at}
-use Rattle.eco_archetypes.specs.Archetypes.{has_one_of, type_at}
+use Rattle.eco_archetypes.proofs.Common.{◌≡◌, false, take, group_at, has_one_of, type_at}
 use Rattle.eco_archetypes.proofs.archetypes.Archetypes.is_found_before.Given as goal
 
 abbrev pub invariant-loop-before : goal.invariant-loop-before

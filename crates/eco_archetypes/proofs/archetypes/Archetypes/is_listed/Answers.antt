@@ -1,5 +1,4 @@
-use Rattle.std.proofs.Common.{ap, ◌∙◌}
-use Rattle.eco_archetypes.specs.Archetypes.{type_at, type_matches}
+use Rattle.eco_archetypes.proofs.Common.{ap, ◌∙◌, type_at, type_matches}
 use Rattle.eco_archetypes.proofs.archetypes.Archetypes.is_listed.Goals as goal
 
 pub returns : goal.returns

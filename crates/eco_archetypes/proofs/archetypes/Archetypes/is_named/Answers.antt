@@ -1,6 +1,4 @@
-use Rattle.std.proofs.Common.{ap, ◌∙◌}
-use Rattle.eco_index.specs.IdIndex.{lists_of}
-use Rattle.eco_archetypes.specs.Naming.{is_named_by_some}
+use Rattle.eco_archetypes.proofs.Common.{ap, ◌∙◌, lists_of, is_named_by_some}
 use Rattle.eco_archetypes.proofs.Named.{listed_named}
 use Rattle.eco_archetypes.proofs.archetypes.Archetypes.is_named.Goals as goal
 

@@ -1,5 +1,4 @@
-use Rattle.std.proofs.Common.{refl}
-use Rattle.eco_archetypes.specs.Archetypes.{type_at}
+use Rattle.eco_archetypes.proofs.Common.{refl, type_at}
 use Rattle.eco_archetypes.proofs.ArchetypeLemmas.{found_kept}
 use Rattle.eco_archetypes.proofs.archetypes.Archetypes.keep.Goals as goal
 

@@ -1,4 +1,4 @@
-use Rattle.std.proofs.Common.{sym, ◌∙◌}
+use Rattle.eco_archetypes.proofs.Common.{sym, ◌∙◌}
 use Rattle.eco_archetypes.proofs.Leads.{lead_there, lead_apart, lead_typed}
 use Rattle.eco_archetypes.proofs.archetypes.Archetypes.lead.Goals as goal
 

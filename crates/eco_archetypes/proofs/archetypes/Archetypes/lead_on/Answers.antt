@@ -1,7 +1,4 @@
-use Rattle.std.proofs.Common.{◌≡◌, Some, ap, ◌∙◌}
-use Rattle.eco_tables.specs.Tables.{table_in}
-use Rattle.eco_index.specs.Edges.{exchanged, toggled}
-use Rattle.eco_archetypes.specs.Archetypes.{type_at}
+use Rattle.eco_archetypes.proofs.Common.{◌≡◌, Some, ap, ◌∙◌, table_in, exchanged, toggled, type_at}
 use Rattle.eco_archetypes.proofs.ArchetypeLemmas.{type_there, typed_table}
 use Rattle.eco_archetypes.proofs.Exchanges.{exchanged_apart, in_two_steps}
 use Rattle.eco_archetypes.proofs.archetypes.Archetypes.lead_on.Goals.{In_ok-to}

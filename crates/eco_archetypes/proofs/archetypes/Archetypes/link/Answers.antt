@@ -1,5 +1,4 @@
-use Rattle.std.proofs.Common.{sym, ◌∙◌}
-use Rattle.eco_tables.proofs.Slots.{none_is}
+use Rattle.eco_archetypes.proofs.Common.{sym, ◌∙◌, none_is}
 use Rattle.eco_archetypes.proofs.Leads.{link_apart, back_free, found_joined}
 use Rattle.eco_archetypes.proofs.archetypes.Archetypes.link.Goals as goal
 

@@ -1,5 +1,4 @@
-use Rattle.eco_ids.proofs.Results.{on_ok}
-use Rattle.eco_entities.specs.Needs.{need}
+use Rattle.eco_archetypes.proofs.Common.{on_ok, need}
 use Rattle.eco_archetypes.proofs.archetypes.Archetypes.make.Goals as goal
 
 pub make_as_wide-requires : goal.make_as_wide-requires

@@ -1,11 +1,5 @@
-use Rattle.std.proofs.Common.{ℕ, Some, option_map, sym, ap, ◌∙◌, cond, subst, unwrap_or}
-use Rattle.std.specs.Map.{lookup}
-use Rattle.eco_tables.specs.Table.{TableState, empty_table}
-use Rattle.eco_tables.specs.Tables.{SetsSlot, no_table}
-use Rattle.eco_index.specs.TypeMap.{same_ids}
-use Rattle.eco_caches.proofs.Caching.{exact_types, then_told}
-use Rattle.eco_archetypes.specs.Archetypes.{type_at}
-use Rattle.eco_archetypes.specs.Widths.{AreWidths}
+use Rattle.eco_archetypes.proofs.Common.{ℕ, Some, option_map, sym, ap, ◌∙◌, cond, subst, unwrap_or, lookup, TableState, empty_table, SetsSlot, no_table}
+use Rattle.eco_archetypes.proofs.Common.{same_ids, exact_types, then_told, type_at, AreWidths}
 use Rattle.eco_archetypes.proofs.ArchetypeLemmas.{found_kept, found_made, found_ready}
 use Rattle.eco_archetypes.proofs.Turnings.{agreed_slots}
 use Rattle.eco_archetypes.proofs.Widths.{made_agreed, made_covers, widths_few, widths_lengths}

@@ -1,6 +1,4 @@
-use Rattle.std.proofs.Common.{OnOk, subst}
-use Rattle.eco_archetypes.specs.Archetypes.{KeepsRoom, KeepsTypes, RowlessBut, SameRows}
-use Rattle.eco_archetypes.specs.Widths.{StillCover}
+use Rattle.eco_archetypes.proofs.Common.{OnOk, subst, KeepsRoom, KeepsTypes, RowlessBut, SameRows, StillCover}
 use Rattle.eco_archetypes.proofs.archetypes.Archetypes.room_for.Goals as goal
 
 pub returns-clause-kept : goal.returns-clause-kept

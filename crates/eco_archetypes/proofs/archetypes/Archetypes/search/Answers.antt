@@ -1,4 +1,4 @@
-use Rattle.std.proofs.Common.{arith}
+use Rattle.eco_archetypes.proofs.Common.{arith}
 use Rattle.eco_archetypes.proofs.Searching.{all_found, none_yet}
 use Rattle.eco_archetypes.proofs.archetypes.Archetypes.search.Goals as goal
 

@@ -1,6 +1,4 @@
-use Rattle.std.proofs.Common.{take}
-use Rattle.eco_index.specs.TypeTests.{group_at, passes_with}
-use Rattle.eco_archetypes.specs.Archetypes.{IsAllFound}
+use Rattle.eco_archetypes.proofs.Common.{take, group_at, passes_with, IsAllFound}
 use Rattle.eco_archetypes.proofs.archetypes.Archetypes.search.Given as goal
 
 abbrev pub invariant-loop-place : goal.invariant-loop-place

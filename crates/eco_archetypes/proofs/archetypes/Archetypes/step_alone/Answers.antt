@@ -1,7 +1,4 @@
-use Rattle.std.proofs.Common.{◌≡◌, IsFalse, length}
-use Rattle.eco_tables.specs.Tables.{table_in}
-use Rattle.eco_index.specs.Edges.{toggled}
-use Rattle.eco_archetypes.specs.Archetypes.{SomeHasType}
+use Rattle.eco_archetypes.proofs.Common.{◌≡◌, IsFalse, length, table_in, toggled, SomeHasType}
 use Rattle.eco_archetypes.proofs.Turnings.{if_ok}
 use Rattle.eco_archetypes.proofs.archetypes.Archetypes.step_alone.Goals as goal
 

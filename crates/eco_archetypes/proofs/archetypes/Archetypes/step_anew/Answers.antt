@@ -1,7 +1,4 @@
-use Rattle.std.proofs.Common.{◌≡◌, ◌≢◌, ◌≤◌, IfOk, Some, ap, ◌∙◌, refl, subst}
-use Rattle.eco_tables.specs.Tables.{table_in}
-use Rattle.eco_index.specs.Edges.{toggled}
-use Rattle.eco_archetypes.specs.Archetypes.{type_at}
+use Rattle.eco_archetypes.proofs.Common.{◌≡◌, ◌≢◌, ◌≤◌, IfOk, Some, ap, ◌∙◌, refl, subst, table_in, toggled, type_at}
 use Rattle.eco_archetypes.proofs.ArchetypeLemmas.{sets_types, there_as_typed, type_there}
 use Rattle.eco_archetypes.proofs.Leads.{apart_by_type, of_slot, of_slot_after}
 use Rattle.eco_archetypes.proofs.Turnings.{if_ok}

@@ -1,5 +1,4 @@
-use Rattle.std.proofs.Common.{sym, ◌∙◌}
-use Rattle.eco_entities.specs.Needs.{need}
+use Rattle.eco_archetypes.proofs.Common.{sym, ◌∙◌, need}
 use Rattle.eco_archetypes.proofs.archetypes.Archetypes.step_only_row.Goals as goal
 
 pub returns-then-has : goal.returns-then-has

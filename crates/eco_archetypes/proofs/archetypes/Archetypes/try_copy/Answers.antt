@@ -1,8 +1,5 @@
-use Rattle.std.proofs.Common.{◌≡◌, ℕ, Option, Some, None, sym, ◌∙◌}
-use Rattle.eco_index.specs.IdIndex.{lists_of}
-use Rattle.eco_caches.proofs.Caching.{exact_types}
+use Rattle.eco_archetypes.proofs.Common.{◌≡◌, ℕ, Option, Some, None, sym, ◌∙◌, lists_of, exact_types, type_at}
 use Rattle.eco_archetypes.proofs.ArchetypeLemmas.{one_slot}
-use Rattle.eco_archetypes.specs.Archetypes.{type_at}
 use Rattle.eco_archetypes.proofs.Copying.{copied_kept, copied_matches, copied_types}
 use Rattle.eco_archetypes.proofs.Widths.{kept_agreed}
 use Rattle.eco_archetypes.proofs.archetypes.Archetypes.try_copy.Goals as goal

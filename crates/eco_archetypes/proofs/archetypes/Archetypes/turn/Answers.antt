@@ -1,9 +1,4 @@
-use Rattle.std.proofs.Common.{Some, None, cond, ap, sym, subst, ◌∙◌}
-use Rattle.std.specs.Map.{lookup}
-use Rattle.std.proofs.lemmas.Option.{same_Some}
-use Rattle.eco_index.specs.TypeMap.{LeadsAlone, same_ids}
-use Rattle.eco_caches.proofs.Caching.{then_told}
-use Rattle.eco_archetypes.specs.Archetypes.{TakesType}
+use Rattle.eco_archetypes.proofs.Common.{Some, None, cond, ap, sym, subst, ◌∙◌, lookup, same_Some, LeadsAlone, same_ids, then_told, TakesType}
 use Rattle.eco_archetypes.proofs.ArchetypeLemmas.{found_ready}
 use Rattle.eco_archetypes.proofs.Turnings.{found_turned}
 use Rattle.eco_archetypes.proofs.archetypes.Archetypes.turn.Goals as goal

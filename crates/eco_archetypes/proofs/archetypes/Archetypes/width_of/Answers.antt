@@ -1,10 +1,5 @@
-use Rattle.std.proofs.Common.{◌≡◌, true, sym, ap, ◌∙◌, subst, unwrap_or}
-use Rattle.std.specs.Option.{option_copied}
-use Rattle.eco_entities.specs.Needs.{need}
-use Rattle.eco_ids.specs.Order.{id_cmp, has_item}
-use Rattle.eco_tables.specs.Table.{TableState, width_in}
-use Rattle.eco_tables.specs.Tables.{table_in, no_table}
-use Rattle.eco_query.specs.Queries.{exactly}
+use Rattle.eco_archetypes.proofs.Common.{◌≡◌, true, sym, ap, ◌∙◌, subst, unwrap_or, option_copied, need, id_cmp, has_item, TableState, width_in}
+use Rattle.eco_archetypes.proofs.Common.{table_in, no_table, exactly}
 use Rattle.eco_archetypes.proofs.NewWidths.{listed_has, width_as, width_new}
 use Rattle.eco_archetypes.proofs.archetypes.Archetypes.width_of.Goals as goal
 

@@ -1,6 +1,4 @@
-use Rattle.std.proofs.Common.{◌+◌, take, take_all, sym, subst}
-use Rattle.eco_entities.specs.Needs.{need}
-use Rattle.eco_archetypes.specs.Widths.{AreWidths}
+use Rattle.eco_archetypes.proofs.Common.{◌+◌, take, take_all, sym, subst, need, AreWidths}
 use Rattle.eco_archetypes.proofs.Widths.{widths_next}
 use Rattle.eco_archetypes.proofs.archetypes.Archetypes.widths_of.Goals as goal
 

@@ -1,6 +1,4 @@
-use Rattle.std.proofs.Common.{take}
-use Rattle.eco_entities.specs.Needs.{need}
-use Rattle.eco_archetypes.specs.Widths.{AreWidths}
+use Rattle.eco_archetypes.proofs.Common.{take, need, AreWidths}
 use Rattle.eco_archetypes.proofs.archetypes.Archetypes.widths_of.Given as goal
 
 abbrev pub invariant-loop-id : goal.invariant-loop-id

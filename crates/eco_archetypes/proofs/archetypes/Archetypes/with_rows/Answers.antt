@@ -1,5 +1,4 @@
-use Rattle.std.proofs.Common.{arith}
-use Rattle.std.proofs.lemmas.Grind.{common_steps}
+use Rattle.eco_archetypes.proofs.Common.{arith, common_steps}
 use Rattle.eco_archetypes.proofs.archetypes.Archetypes.with_rows.Goals as goal
 
 pub loop-slot-preserved : goal.loop-slot-preserved

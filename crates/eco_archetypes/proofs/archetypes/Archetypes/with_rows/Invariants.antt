@@ -1,5 +1,4 @@
-use Rattle.std.proofs.Common.{◌≡◌, filter, take}
-use Rattle.eco_archetypes.specs.Archetypes.{has_rows}
+use Rattle.eco_archetypes.proofs.Common.{◌≡◌, filter, take, has_rows}
 use Rattle.eco_archetypes.proofs.archetypes.Archetypes.with_rows.Given as goal
 
 abbrev pub invariant-loop-slot : goal.invariant-loop-slot

@@ -1,6 +1,4 @@
-use Rattle.std.proofs.Common.{take}
-use Rattle.eco_caches.specs.Caching.{AreThose}
-use Rattle.eco_archetypes.specs.Archetypes.{type_at}
+use Rattle.eco_archetypes.proofs.Common.{take, AreThose, type_at}
 use Rattle.eco_archetypes.proofs.archetypes.caching.fulfilling.Given as goal
 
 abbrev pub invariant-loop-slot : goal.invariant-loop-slot

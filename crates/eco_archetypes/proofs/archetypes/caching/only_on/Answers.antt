@@ -1,11 +1,7 @@
-use Rattle.std.proofs.Common.{[], ◌∷◌, map, ap, sym, ◌∙◌, option_map}
+use Rattle.eco_archetypes.proofs.Common.{[], ◌∷◌, map, ap, sym, ◌∙◌, option_map, TableState, asks, choices_on, type_at}
 use Rattle.eco_ids.specs.Answer.{choices}
-use Rattle.eco_tables.specs.Table.{TableState}
-use Rattle.eco_entries.specs.Answers.{asks}
 use Rattle.eco_entries.specs.Flat.{ChoicesState}
-use Rattle.eco_caches.specs.Caching.{choices_on}
 use Rattle.eco_caches.proofs.Onlies.{all_kept, only_more}
-use Rattle.eco_archetypes.specs.Archetypes.{type_at}
 use Rattle.eco_archetypes.proofs.archetypes.caching.only_on.Goals as goal
 
 pub loop-slot-init : goal.loop-slot-init

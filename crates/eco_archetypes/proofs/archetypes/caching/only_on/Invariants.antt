@@ -1,7 +1,4 @@
-use Rattle.std.proofs.Common.{◌≡◌, take, length}
-use Rattle.eco_entries.specs.Answers.{asks}
-use Rattle.eco_caches.specs.Caching.{AreOnly}
-use Rattle.eco_archetypes.specs.Archetypes.{type_at}
+use Rattle.eco_archetypes.proofs.Common.{◌≡◌, take, length, asks, AreOnly, type_at}
 use Rattle.eco_archetypes.proofs.archetypes.caching.only_on.Given as goal
 
 abbrev pub invariant-loop-slot : goal.invariant-loop-slot

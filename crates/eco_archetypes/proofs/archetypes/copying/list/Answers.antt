@@ -1,6 +1,4 @@
-use Rattle.std.proofs.Common.{Some, ap, ◌∙◌, cond}
-use Rattle.std.specs.Map.{lookup}
-use Rattle.eco_index.specs.TypeMap.{same_ids}
+use Rattle.eco_archetypes.proofs.Common.{Some, ap, ◌∙◌, cond, lookup, same_ids}
 use Rattle.eco_archetypes.proofs.archetypes.copying.list.Goals as goal
 
 pub returns : goal.returns

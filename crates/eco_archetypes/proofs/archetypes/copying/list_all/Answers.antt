@@ -1,9 +1,4 @@
-use Rattle.std.proofs.Common.{◌≡◌, ℕ, List, Option, Some, None, sym, ap, ◌∙◌}
-use Rattle.std.specs.Option.{option_copied}
-use Rattle.std.specs.Map.{lookup}
-use Rattle.std.specs.HashMap.{get}
-use Rattle.eco_ids.specs.declared.id.Id.{Id}
-use Rattle.eco_index.specs.TypeMap.{same_ids}
+use Rattle.eco_archetypes.proofs.Common.{◌≡◌, ℕ, List, Option, Some, None, sym, ap, ◌∙◌, option_copied, lookup, get, Id, same_ids}
 use Rattle.eco_archetypes.proofs.Copying.{listed_more, listed_none}
 use Rattle.eco_archetypes.proofs.archetypes.copying.list_all.Goals.{in-Some+in_ok-list, in_default}
 use Rattle.eco_archetypes.proofs.archetypes.copying.list_all.Goals as goal

@@ -1,6 +1,4 @@
-use Rattle.std.proofs.Common.{take}
-use Rattle.eco_index.specs.TypeMap.{IsTypeMap}
-use Rattle.eco_archetypes.specs.Archetypes.{type_at}
+use Rattle.eco_archetypes.proofs.Common.{take, IsTypeMap, type_at}
 use Rattle.eco_archetypes.proofs.archetypes.copying.list_all.Given as goal
 
 abbrev pub invariant-loop-slot : goal.invariant-loop-slot

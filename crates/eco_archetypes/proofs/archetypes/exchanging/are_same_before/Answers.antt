@@ -1,4 +1,4 @@
-use Rattle.std.proofs.Common.{sym, ◌∙◌}
+use Rattle.eco_archetypes.proofs.Common.{sym, ◌∙◌}
 use Rattle.eco_ids.proofs.SameIds.{same_ids-Decides}
 use Rattle.eco_archetypes.proofs.archetypes.exchanging.are_same_before.Goals as goal
 

@@ -1,6 +1,4 @@
-use Rattle.std.proofs.Common.{◌≡◌, ◌+◌, ◌-◌, length, drop, take, length-drop, List, sym, ◌∙◌, arith}
-use Rattle.std.proofs.lemmas.List.{take_all}
-use Rattle.eco_ids.specs.declared.id.Id.{Id}
+use Rattle.eco_archetypes.proofs.Common.{◌≡◌, ◌+◌, ◌-◌, length, drop, take, length-drop, List, sym, ◌∙◌, arith, take_all, Id}
 use Rattle.eco_ids.proofs.SameIds.{same_ids-Decides}
 use Rattle.eco_archetypes.proofs.archetypes.exchanging.are_same_behind.Goals as goal
 

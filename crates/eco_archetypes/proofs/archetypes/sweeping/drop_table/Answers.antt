@@ -1,9 +1,5 @@
-use Rattle.std.proofs.Common.{◌≡◌, false, true≢false, List, Option, Some, None, is_some, subst, sym, ap, ◌∙◌}
-use Rattle.std.specs.Prelude.{IfNone}
-use Rattle.eco_tables.specs.Table.{TableState}
-use Rattle.eco_tables.specs.Tables.{slot_of}
-use Rattle.eco_caches.specs.Caching.{AreExact}
-use Rattle.eco_archetypes.specs.Archetypes.{type_at, SameSlots}
+use Rattle.eco_archetypes.proofs.Common.{◌≡◌, false, true≢false, List, Option, Some, None, is_some, subst, sym, ap, ◌∙◌, IfNone, TableState}
+use Rattle.eco_archetypes.proofs.Common.{slot_of, AreExact, type_at, SameSlots}
 use Rattle.eco_archetypes.proofs.Sweeping.{dropped_type, drops_one}
 use Rattle.eco_archetypes.proofs.archetypes.sweeping.drop_table.Goals as goal
 

@@ -1,6 +1,4 @@
-use Rattle.std.proofs.Common.{◌∷◌, [], take, get_or, refl, inl, sym, ◌∙◌, subst, take_all}
-use Rattle.std.proofs.lemmas.List.{take_more, append_assoc}
-use Rattle.eco_archetypes.specs.Sweeping.{DropsRowless}
+use Rattle.eco_archetypes.proofs.Common.{◌∷◌, [], take, get_or, refl, inl, sym, ◌∙◌, subst, take_all, take_more, append_assoc, DropsRowless}
 use Rattle.eco_archetypes.proofs.Sweeping.{drops_both, drops_none, less_both}
 use Rattle.eco_archetypes.proofs.archetypes.sweeping.drop_tables.Goals as goal
 

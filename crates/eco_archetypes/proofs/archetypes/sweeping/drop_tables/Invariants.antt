@@ -1,7 +1,4 @@
-use Rattle.std.proofs.Common.{ℕ, List, ◌++◌, take}
-use Rattle.eco_caches.specs.Caching.{AreExact}
-use Rattle.eco_archetypes.specs.Archetypes.{type_at, RowlessIn, SameRows}
-use Rattle.eco_archetypes.specs.Sweeping.{DropsRowless, IsLess}
+use Rattle.eco_archetypes.proofs.Common.{ℕ, List, ◌++◌, take, AreExact, type_at, RowlessIn, SameRows, DropsRowless, IsLess}
 use Rattle.eco_archetypes.proofs.archetypes.sweeping.drop_tables.Given as goal
 
 abbrev pub invariant-loop-slot : goal.invariant-loop-slot

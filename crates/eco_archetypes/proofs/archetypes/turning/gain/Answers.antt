@@ -1,10 +1,5 @@
-use Rattle.std.proofs.Common.{◌≡◌, false, option_map, unwrap_or, ap, sym, subst, ◌∙◌}
-use Rattle.std.specs.Option.{option_copied}
-use Rattle.std.proofs.lemmas.Option.{same_Some}
-use Rattle.eco_tables.specs.Table.{TableState}
-use Rattle.eco_tables.specs.Tables.{table_in, no_table}
-use Rattle.eco_index.specs.IdIndex.{Turns, is_own, lists_of}
-use Rattle.eco_archetypes.specs.Archetypes.{SameSlots}
+use Rattle.eco_archetypes.proofs.Common.{◌≡◌, false, option_map, unwrap_or, ap, sym, subst, ◌∙◌, option_copied, same_Some, TableState, table_in}
+use Rattle.eco_archetypes.proofs.Common.{no_table, Turns, is_own, lists_of, SameSlots}
 use Rattle.eco_archetypes.proofs.ArchetypeLemmas.{type_there}
 use Rattle.eco_archetypes.proofs.Turnings.{agreed_slots, covers_slots, gained_agreed, gained_covers, index_back, index_gained, kept_slots, wide_gained}
 use Rattle.eco_archetypes.proofs.archetypes.turning.gain.Goals as goal

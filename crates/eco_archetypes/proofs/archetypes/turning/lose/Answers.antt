@@ -1,11 +1,5 @@
-use Rattle.std.proofs.Common.{◌≡◌, Some, false, option_map, unwrap_or, ap, sym, subst, ◌∙◌}
-use Rattle.std.specs.Option.{option_copied}
-use Rattle.std.proofs.lemmas.Option.{same_Some}
-use Rattle.eco_ids.specs.Order.{id_cmp, without_item}
-use Rattle.eco_tables.specs.Table.{TableState}
-use Rattle.eco_tables.specs.Tables.{table_in, no_table}
-use Rattle.eco_index.specs.IdIndex.{Turns, is_own, lists_of}
-use Rattle.eco_archetypes.specs.Archetypes.{type_at}
+use Rattle.eco_archetypes.proofs.Common.{◌≡◌, Some, false, option_map, unwrap_or, ap, sym, subst, ◌∙◌, option_copied, same_Some, id_cmp}
+use Rattle.eco_archetypes.proofs.Common.{without_item, TableState, table_in, no_table, Turns, is_own, lists_of, type_at}
 use Rattle.eco_archetypes.proofs.ArchetypeLemmas.{type_there}
 use Rattle.eco_archetypes.proofs.Turnings.{gone_lost, index_lost, lost_agreed, lost_widths, wide_lost}
 use Rattle.eco_archetypes.proofs.archetypes.turning.lose.Goals as goal

@@ -1,4 +1,4 @@
-use Rattle.std.proofs.Common.{◌∙◌, option_copied}
+use Rattle.eco_batches.proofs.Common.{◌∙◌, option_copied}
 use Rattle.eco_batches.proofs.Joins.{apart_found}
 use Rattle.eco_batches.proofs.batch.Batch.clashes.Goals as goal
 

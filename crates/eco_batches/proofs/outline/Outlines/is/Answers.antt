@@ -1,5 +1,4 @@
-use Rattle.std.proofs.Common.{map, sym, ◌∙◌}
-use Rattle.eco_batches.specs.OutlineModels.{outline_of}
+use Rattle.eco_batches.proofs.Common.{map, sym, ◌∙◌, outline_of}
 use Rattle.eco_batches.proofs.Same.{outlines-Decide, patterns-Decide}
 use Rattle.eco_batches.proofs.outline.Outlines.is.Goals as goal
 

@@ -1,4 +1,4 @@
-use Rattle.std.proofs.Common.{arith}
+use Rattle.eco_batches.proofs.Common.{arith}
 use Rattle.eco_batches.proofs.Parts.{pushed}
 use Rattle.eco_batches.proofs.outline.Outlines.push.Goals as goal
 

@@ -1,7 +1,4 @@
-use Rattle.std.proofs.Common.{ap, subst, ◌∙◌}
-use Rattle.std.specs.List.{AllZip}
-use Rattle.eco_systems.specs.Phases.{order_of}
-use Rattle.eco_batches.specs.Outlines.{IsOutline, cut_of, systems_of}
+use Rattle.eco_batches.proofs.Common.{ap, subst, ◌∙◌, AllZip, order_of, IsOutline, cut_of, systems_of}
 use Rattle.eco_batches.proofs.Clashes.{cuts_are_placed}
 use Rattle.eco_batches.proofs.plan.Plan.new.Goals as goal
 

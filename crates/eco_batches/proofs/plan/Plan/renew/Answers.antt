@@ -1,6 +1,4 @@
-use Rattle.std.proofs.Common.{subst, sym, ◌∙◌}
-use Rattle.std.specs.List.{AllZip}
-use Rattle.eco_batches.specs.Outlines.{IsOutline, cut_of}
+use Rattle.eco_batches.proofs.Common.{subst, sym, ◌∙◌, AllZip, IsOutline, cut_of}
 use Rattle.eco_batches.specs.Plans.{batches_in}
 use Rattle.eco_batches.proofs.Clashes.{cuts_are_placed}
 use Rattle.eco_batches.proofs.plan.Plan.renew.Goals as goal

@@ -1,5 +1,4 @@
-use Rattle.std.proofs.Common.{map}
-use Rattle.eco_query.specs.Queries.{slot_view}
+use Rattle.eco_bodies.proofs.Common.{map, slot_view}
 use Rattle.eco_bodies.proofs.Allowed.{allowed_by}
 use Rattle.eco_bodies.proofs.script.Script.new.Goals as goal
 

@@ -1,4 +1,4 @@
-use Rattle.std.proofs.Common.{◌≡◌, List, [], ◌∷◌, ◌++◌, refl, ap, ◌∙◌, string_bytes}
+use Rattle.eco_bodies.proofs.Common.{◌≡◌, List, [], ◌∷◌, ◌++◌, refl, ap, ◌∙◌, string_bytes}
 use Rattle.eco_bodies.specs.declared.systems.System.{System}
 use Rattle.eco_bodies.proofs.systems.Systems.add.Goals as goal
 

@@ -1,4 +1,4 @@
-use Rattle.std.proofs.Common.{None, refl}
+use Rattle.eco_caches.proofs.Common.{None, refl}
 use Rattle.eco_caches.proofs.cache.Cache.forget.Goals as goal
 
 pub returns-clause-told : goal.returns-clause-told

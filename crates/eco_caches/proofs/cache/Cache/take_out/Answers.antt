@@ -1,4 +1,4 @@
-use Rattle.std.proofs.Common.{false, sym}
+use Rattle.eco_caches.proofs.Common.{false, sym}
 use Rattle.eco_caches.proofs.Onlies.{keeps_still, kept_still, kept_taken, those_told}
 use Rattle.eco_caches.proofs.cache.Cache.take_out.Goals as goal
 

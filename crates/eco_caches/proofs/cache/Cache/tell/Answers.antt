@@ -1,4 +1,4 @@
-use Rattle.std.proofs.Common.{Some, true, sym, rules}
+use Rattle.eco_caches.proofs.Common.{Some, true, sym, rules}
 use Rattle.eco_caches.proofs.Onlies.{kept_in, those_told}
 use Rattle.eco_caches.proofs.cache.Cache.tell.Goals as goal
 

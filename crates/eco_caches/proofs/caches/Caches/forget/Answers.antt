@@ -1,6 +1,4 @@
-use Rattle.std.proofs.Common.{None, ap, arith, ◌∙◌}
-use Rattle.eco_caches.specs.Caching.{kept_queries}
-use Rattle.eco_ids.proofs.Lists.{some_at}
+use Rattle.eco_caches.proofs.Common.{None, ap, arith, ◌∙◌, kept_queries, some_at}
 use Rattle.eco_caches.proofs.Caching.{keep_all, keep_begun, keep_more, queries_back, queries_kept, told_all, told_begun, told_more}
 use Rattle.eco_caches.proofs.caches.Caches.forget.Goals as goal
 

@@ -1,5 +1,4 @@
-use Rattle.std.proofs.Common.{◌≡◌, None}
-use Rattle.eco_caches.specs.Caching.{kept_queries}
+use Rattle.eco_caches.proofs.Common.{◌≡◌, None, kept_queries}
 use Rattle.eco_caches.proofs.Caching.{AreToldTo, KeepStillTo}
 use Rattle.eco_caches.proofs.caches.Caches.forget.Given as goal
 

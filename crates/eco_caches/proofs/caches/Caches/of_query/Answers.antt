@@ -1,5 +1,4 @@
-use Rattle.std.proofs.Common.{refl, sym, ap, ◌∙◌, slice_get}
-use Rattle.std.proofs.lemmas.Option.{slice_get_read}
+use Rattle.eco_caches.proofs.Common.{refl, sym, ap, ◌∙◌, slice_get, slice_get_read}
 use Rattle.eco_caches.proofs.Caching.{those_of}
 use Rattle.eco_caches.proofs.caches.Caches.of_query.Goals as goal
 

@@ -1,5 +1,4 @@
-use Rattle.std.proofs.Common.{refl, sym, ap, ◌∙◌, slice_get}
-use Rattle.std.proofs.lemmas.Option.{slice_get_read}
+use Rattle.eco_caches.proofs.Common.{refl, sym, ap, ◌∙◌, slice_get, slice_get_read}
 use Rattle.eco_caches.proofs.Caching.{kept_of}
 use Rattle.eco_caches.proofs.caches.Caches.only_of.Goals as goal
 

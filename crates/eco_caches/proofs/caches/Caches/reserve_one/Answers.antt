@@ -1,7 +1,5 @@
-use Rattle.std.proofs.Common.{ap, arith, ◌∙◌}
+use Rattle.eco_caches.proofs.Common.{ap, arith, ◌∙◌, cache_states, some_at}
 use Rattle.std.proofs.lemmas.List.{length-set}
-use Rattle.eco_caches.specs.Caching.{cache_states}
-use Rattle.eco_ids.proofs.Lists.{some_at}
 use Rattle.eco_caches.proofs.Caching.{queries_of, room_back, room_more, states_kept, stay_back, stay_more, still_exact, written_back}
 use Rattle.eco_caches.proofs.caches.Caches.reserve_one.Goals as goal
 

@@ -1,7 +1,4 @@
-use Rattle.std.proofs.Common.{◌≡◌, ℕ, ◌<◌, Some, slice_get}
-use Rattle.std.specs.HashSet.{spare}
-use Rattle.eco_caches.specs.declared.cache.Cache.{Cache}
-use Rattle.eco_caches.specs.Caching.{StayExact, cache_states}
+use Rattle.eco_caches.proofs.Common.{◌≡◌, ℕ, ◌<◌, Some, slice_get, spare, Cache, StayExact, cache_states}
 use Rattle.eco_caches.proofs.caches.Caches.reserve_one.Given as goal
 
 abbrev pub invariant-loop-cache : goal.invariant-loop-cache

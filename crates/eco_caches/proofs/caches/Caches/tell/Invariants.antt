@@ -1,5 +1,4 @@
-use Rattle.std.proofs.Common.{◌≡◌, Some}
-use Rattle.eco_caches.specs.Caching.{kept_queries}
+use Rattle.eco_caches.proofs.Common.{◌≡◌, Some, kept_queries}
 use Rattle.eco_caches.proofs.Caching.{HaveRoomFrom, AreToldTo, KeepStillTo}
 use Rattle.eco_caches.proofs.caches.Caches.tell.Given as goal
 

@@ -1,5 +1,4 @@
-use Rattle.std.proofs.Common.{refl, ap, arith, length}
-use Rattle.std.proofs.lemmas.Option.{slice_get_read}
+use Rattle.eco_caches.proofs.Common.{refl, ap, arith, length, slice_get_read}
 use Rattle.eco_caches.proofs.Caching.{copied_all, copied_more, states_all, states_more}
 use Rattle.eco_caches.proofs.caches.Caches.try_copy.Goals as goal
 

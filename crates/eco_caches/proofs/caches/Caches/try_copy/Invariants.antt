@@ -1,5 +1,4 @@
-use Rattle.std.proofs.Common.{◌≡◌, take}
-use Rattle.eco_caches.specs.Caching.{StayExact, cache_states}
+use Rattle.eco_caches.proofs.Common.{◌≡◌, take, StayExact, cache_states}
 use Rattle.eco_caches.proofs.caches.Caches.try_copy.Given as goal
 
 abbrev pub invariant-loop-cache : goal.invariant-loop-cache

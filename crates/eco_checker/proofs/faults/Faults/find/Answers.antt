@@ -1,7 +1,4 @@
-use Rattle.std.proofs.Common.{◌∙◌, ap, sym, map}
-use Rattle.serde_json.specs.View.{view}
-use Rattle.eco_steps.specs.Decode.{step_in}
-use Rattle.eco_checker.specs.Faults.{edition_in, numbers_without}
+use Rattle.eco_checker.proofs.Common.{◌∙◌, ap, sym, map, view, step_in, edition_in, numbers_without}
 use Rattle.eco_checker.proofs.Scripts.{none_of_script, script_without}
 use Rattle.eco_checker.proofs.faults.Faults.find.Goals as goal
 

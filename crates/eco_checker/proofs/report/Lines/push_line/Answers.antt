@@ -1,4 +1,4 @@
-use Rattle.std.specs.Prelude.{string_bytes}
+use Rattle.eco_checker.proofs.Common.{string_bytes}
 use Rattle.eco_checker.proofs.Lines.{line_added, on_ok}
 use Rattle.eco_checker.proofs.report.Lines.push_line.Goals as goal
 

@@ -1,6 +1,6 @@
 use Rattle.eco_checker.proofs.Lines.{adds_more, some_adds}
-use Rattle.eco_checker.proofs.report.Lines.push_some_actions.Goals as goal
 use Rattle.eco_checker.proofs.report.Lines.push_some_actions.Goals.{in-Some+in_ok-push_fault, in_default}
+use Rattle.eco_checker.proofs.report.Lines.push_some_actions.Goals as goal
 
 pub loop-number-preserved : goal.loop-number-preserved
 loop-number-preserved c = elim c.match-get.branch [

@@ -1,5 +1,4 @@
-use Rattle.std.proofs.Common.{map, string_bytes}
-use Rattle.eco_checker.specs.Places.{AddsLines}
+use Rattle.eco_checker.proofs.Common.{map, string_bytes, AddsLines}
 use Rattle.eco_checker.proofs.report.Lines.push_stages.Given as goal
 
 -- the lines that were added are those of the step

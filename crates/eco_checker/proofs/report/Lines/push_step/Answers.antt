@@ -1,8 +1,7 @@
-use Rattle.std.proofs.Common.{map, string_bytes, sym, ◌∙◌}
-use Rattle.eco_checker.specs.Places.{AddsLines}
+use Rattle.eco_checker.proofs.Common.{map, string_bytes, sym, ◌∙◌, AddsLines}
 use Rattle.eco_checker.proofs.Lines.{adds_more, adds_none, grown, same_count, some_adds}
-use Rattle.eco_checker.proofs.report.Lines.push_step.Goals as goal
 use Rattle.eco_checker.proofs.report.Lines.push_step.Goals.{then-not-is_well_formed+in_ok-push_fault, else-not-is_well_formed}
+use Rattle.eco_checker.proofs.report.Lines.push_step.Goals as goal
 
 pub returns-else-len-before : goal.returns-else-len-before
 returns-else-len-before c =

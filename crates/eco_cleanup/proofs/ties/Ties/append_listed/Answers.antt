@@ -1,7 +1,4 @@
-use Rattle.std.proofs.Common.{◌++◌, flat_map, ap, ◌∙◌}
-use Rattle.std.proofs.lemmas.List.{take_all}
-use Rattle.eco_cleanup.specs.Nodes.{nodes_at}
-use Rattle.eco_store.specs.Worlds.{world_of}
+use Rattle.eco_cleanup.proofs.Common.{◌++◌, flat_map, ap, ◌∙◌, take_all, nodes_at, world_of}
 use Rattle.eco_cleanup.proofs.Noted.{listed_come}
 use Rattle.eco_cleanup.proofs.ties.Ties.append_listed.Goals as goal
 

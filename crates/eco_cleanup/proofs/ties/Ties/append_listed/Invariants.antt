@@ -1,6 +1,4 @@
-use Rattle.std.proofs.Common.{◌≡◌, ◌++◌, flat_map, take}
-use Rattle.eco_cleanup.specs.Nodes.{nodes_at}
-use Rattle.eco_store.specs.Worlds.{world_of}
+use Rattle.eco_cleanup.proofs.Common.{◌≡◌, ◌++◌, flat_map, take, nodes_at, world_of}
 use Rattle.eco_cleanup.proofs.ties.Ties.append_listed.Given as goal
 
 abbrev pub invariant-loop-slot : goal.invariant-loop-slot

@@ -1,5 +1,4 @@
-use Rattle.eco_ids.proofs.Results.{on_ok}
-use Rattle.eco_store.specs.Worlds.{world_of}
+use Rattle.eco_cleanup.proofs.Common.{on_ok, world_of}
 use Rattle.eco_cleanup.proofs.Noted.{three_come}
 use Rattle.eco_cleanup.proofs.ties.Ties.append_named.Goals as goal
 

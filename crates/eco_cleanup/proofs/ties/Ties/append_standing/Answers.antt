@@ -1,8 +1,4 @@
-use Rattle.std.proofs.Common.{◌||◌, ap, ◌∙◌, arith}
-use Rattle.std.proofs.lemmas.List.{take_all}
-use Rattle.std.specs.List.{list_any}
-use Rattle.eco_cleanup.specs.Nodes.{is_one_of, touches}
-use Rattle.eco_store.specs.Worlds.{world_of}
+use Rattle.eco_cleanup.proofs.Common.{◌||◌, ap, ◌∙◌, arith, take_all, list_any, is_one_of, touches, world_of}
 use Rattle.eco_cleanup.proofs.Noted.{one_more}
 use Rattle.eco_cleanup.proofs.ties.Ties.append_standing.Goals as goal
 

@@ -1,8 +1,4 @@
-use Rattle.std.proofs.Common.{◌≡◌, ◌||◌, take}
-use Rattle.std.specs.List.{list_any}
-use Rattle.eco_cleanup.specs.Nodes.{is_one_of, touches}
-use Rattle.eco_store.specs.Worlds.{world_of}
-use Rattle.eco_cleanup.specs.declared.node.Node.{Node}
+use Rattle.eco_cleanup.proofs.Common.{◌≡◌, ◌||◌, take, list_any, is_one_of, touches, world_of, Node}
 use Rattle.eco_cleanup.proofs.ties.Ties.append_standing.Given as goal
 
 abbrev pub invariant-loop-entity : goal.invariant-loop-entity

@@ -1,6 +1,4 @@
-use Rattle.std.proofs.Common.{flat_map, ap, ◌∙◌}
-use Rattle.std.proofs.lemmas.List.{take_all}
-use Rattle.eco_cleanup.specs.Plans.{changes_at}
+use Rattle.eco_cleanup.proofs.Common.{flat_map, ap, ◌∙◌, take_all, changes_at}
 use Rattle.eco_cleanup.proofs.Pieces.{one_piece}
 use Rattle.eco_cleanup.proofs.ties.Ties.changes.Goals as goal
 

@@ -1,5 +1,4 @@
-use Rattle.std.proofs.Common.{◌≡◌, flat_map, take}
-use Rattle.eco_cleanup.specs.Plans.{Ascend, changes_at}
+use Rattle.eco_cleanup.proofs.Common.{◌≡◌, flat_map, take, Ascend, changes_at}
 use Rattle.eco_cleanup.proofs.ties.Ties.changes.Given as goal
 
 abbrev pub invariant-loop-node : goal.invariant-loop-node

@@ -1,6 +1,4 @@
-use Rattle.std.proofs.Common.{ap, ◌∙◌}
-use Rattle.std.proofs.lemmas.List.{take_all}
-use Rattle.eco_cleanup.specs.Nodes.{taken_among, taken_by}
+use Rattle.eco_cleanup.proofs.Common.{ap, ◌∙◌, take_all, taken_among, taken_by}
 use Rattle.eco_cleanup.proofs.Pieces.{one_piece}
 use Rattle.eco_cleanup.proofs.ties.Ties.dead.Goals as goal
 

@@ -1,5 +1,4 @@
-use Rattle.std.proofs.Common.{◌≡◌, take}
-use Rattle.eco_cleanup.specs.Nodes.{taken_among}
+use Rattle.eco_cleanup.proofs.Common.{◌≡◌, take, taken_among}
 use Rattle.eco_cleanup.proofs.ties.Ties.dead.Given as goal
 
 abbrev pub invariant-loop-node : goal.invariant-loop-node

@@ -1,4 +1,4 @@
-use Rattle.std.proofs.Common.{◌∙◌}
+use Rattle.eco_cleanup.proofs.Common.{◌∙◌}
 use Rattle.eco_cleanup.proofs.Deaths.{dies_nowhere, dies_there}
 use Rattle.eco_cleanup.proofs.ties.Ties.dies.Goals as goal
 

@@ -1,7 +1,4 @@
-use Rattle.std.proofs.Common.{◌≡◌, fold, take, None}
-use Rattle.eco_cleanup.specs.Firsts.{former}
-use Rattle.eco_cleanup.specs.Objections.{objection_cmp, objection_of}
-use Rattle.eco_store.specs.Worlds.{world_of}
+use Rattle.eco_cleanup.proofs.Common.{◌≡◌, fold, take, None, former, objection_cmp, objection_of, world_of}
 use Rattle.eco_cleanup.proofs.ties.Ties.first_objection.Given as goal
 
 abbrev pub invariant-loop-node : goal.invariant-loop-node

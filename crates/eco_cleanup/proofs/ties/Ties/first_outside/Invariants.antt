@@ -1,6 +1,4 @@
-use Rattle.std.proofs.Common.{◌≡◌, take}
-use Rattle.eco_cleanup.specs.Nodes.{taken_among}
-use Rattle.eco_cleanup.specs.Objections.{first_outside}
+use Rattle.eco_cleanup.proofs.Common.{◌≡◌, take, taken_among, first_outside}
 use Rattle.eco_cleanup.proofs.ties.Ties.first_outside.Given as goal
 
 abbrev pub invariant-loop-entity : goal.invariant-loop-entity

@@ -1,7 +1,4 @@
-use Rattle.std.proofs.Common.{◌≡◌, take}
-use Rattle.eco_cleanup.specs.Nodes.{taken_among}
-use Rattle.eco_cleanup.specs.Objections.{first_protected}
-use Rattle.eco_store.specs.Worlds.{world_of}
+use Rattle.eco_cleanup.proofs.Common.{◌≡◌, take, taken_among, first_protected, world_of}
 use Rattle.eco_cleanup.proofs.ties.Ties.first_protected.Given as goal
 
 abbrev pub invariant-loop-id : goal.invariant-loop-id

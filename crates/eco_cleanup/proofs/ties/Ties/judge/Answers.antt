@@ -1,4 +1,4 @@
-use Rattle.std.proofs.Common.{None, Some, sym, ◌∙◌}
+use Rattle.eco_cleanup.proofs.Common.{None, Some, sym, ◌∙◌}
 use Rattle.eco_cleanup.proofs.Forbidden.{judged_exactly}
 use Rattle.eco_cleanup.proofs.ties.Ties.judge.Goals as goal
 

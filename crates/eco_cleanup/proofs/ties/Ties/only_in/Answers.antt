@@ -1,7 +1,5 @@
-use Rattle.std.proofs.Common.{◌≡◌, filter, length, unwrap_or, sym, ap, ◌∙◌, subst, IsTrue, arith}
-use Rattle.eco_ids.specs.Order.{id_cmp, is_ascending, names_entity}
-use Rattle.eco_tables.specs.Table.{TableState, entities_of}
-use Rattle.eco_tables.specs.Tables.{no_table, table_in}
+use Rattle.eco_cleanup.proofs.Common.{◌≡◌, filter, length, unwrap_or, sym, ap, ◌∙◌, subst, IsTrue, arith, id_cmp, is_ascending, names_entity}
+use Rattle.eco_cleanup.proofs.Common.{TableState, entities_of, no_table, table_in}
 use Rattle.eco_cleanup.proofs.OnlyFound.{first_alone, found_only}
 use Rattle.eco_cleanup.proofs.ties.Ties.only_in.Goals as goal
 

@@ -1,8 +1,4 @@
-use Rattle.std.proofs.Common.{[], ap, ◌∙◌}
-use Rattle.std.proofs.lemmas.List.{take_all}
-use Rattle.eco_ids.specs.Cleanup.{names_any}
-use Rattle.eco_cleanup.specs.Nodes.{taken_among}
-use Rattle.eco_ids.proofs.Sparing.{all_staying, with_staying}
+use Rattle.eco_cleanup.proofs.Common.{[], ap, ◌∙◌, take_all, names_any, taken_among, all_staying, with_staying}
 use Rattle.eco_cleanup.proofs.ties.Ties.spared.Goals as goal
 
 pub returns : goal.returns

@@ -1,7 +1,4 @@
-use Rattle.std.proofs.Common.{◌≡◌, [], take}
-use Rattle.eco_ids.specs.Cleanup.{names_any}
-use Rattle.eco_cleanup.specs.Nodes.{taken_among}
-use Rattle.eco_ids.proofs.Sparing.{with_staying}
+use Rattle.eco_cleanup.proofs.Common.{◌≡◌, [], take, names_any, taken_among, with_staying}
 use Rattle.eco_cleanup.proofs.ties.Ties.spared.Given as goal
 
 abbrev pub invariant-loop-id : goal.invariant-loop-id

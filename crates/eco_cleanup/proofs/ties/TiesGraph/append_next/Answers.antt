@@ -1,6 +1,4 @@
-use Rattle.eco_store.specs.Worlds.{world_of}
-use Rattle.eco_cleanup.specs.declared.node.Node.TheVariants.{Root, Falling}
-use Rattle.eco_ids.proofs.Results.{on_ok}
+use Rattle.eco_cleanup.proofs.Common.{world_of, Root, Falling, on_ok}
 use Rattle.eco_cleanup.proofs.Noted.{all_known, come_of}
 use Rattle.eco_cleanup.proofs.ties.TiesGraph.append_next.Goals as goal
 

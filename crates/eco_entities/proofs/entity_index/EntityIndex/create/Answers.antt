@@ -1,6 +1,4 @@
-use Rattle.std.proofs.Common.{◌≡◌, rules, option_copied, Err, Some}
-use Rattle.eco_ids.specs.Births.{unfit_name}
-use Rattle.eco_entities.specs.Registration.{given_name}
+use Rattle.eco_entities.proofs.Common.{◌≡◌, rules, option_copied, Err, Some, unfit_name, given_name}
 use Rattle.eco_entities.proofs.Renaming.{checked, makes_refused}
 use Rattle.eco_entities.proofs.entity_index.EntityIndex.create.Goals as goal
 

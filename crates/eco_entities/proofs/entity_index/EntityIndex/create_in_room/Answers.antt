@@ -1,6 +1,4 @@
-use Rattle.std.proofs.Common.{refl, Some, None}
-use Rattle.eco_ids.specs.Indices.{with_new}
-use Rattle.eco_entities.specs.Registration.{newcomer, placed}
+use Rattle.eco_entities.proofs.Common.{refl, Some, None, with_new, newcomer, placed}
 use Rattle.eco_entities.proofs.Kept.{record-new}
 use Rattle.eco_entities.proofs.Owners.{names_follow, own_of_next}
 use Rattle.eco_entities.proofs.Registers.{registry_nameless}

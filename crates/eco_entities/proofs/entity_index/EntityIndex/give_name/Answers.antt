@@ -1,17 +1,11 @@
-use Rattle.std.proofs.Common.{◌≡◌, ◌∙◌, refl, ap, sym, true, false, IsTrue, None, Some, is_some, option_map}
-use Rattle.std.proofs.lemmas.Option.{none-some}
-use Rattle.eco_ids.specs.Indices.{Indexed, changed, is_alive}
-use Rattle.eco_ids.specs.Renaming.{may_rename, own_name}
-use Rattle.eco_ids.proofs.Results.{err_says}
-use Rattle.eco_entities.specs.Label.{label_text}
-use Rattle.eco_entities.specs.Registration.{Registration, given_name, renamed}
-use Rattle.eco_entities.specs.Registry.{entity_of}
+use Rattle.eco_entities.proofs.Common.{◌≡◌, ◌∙◌, refl, ap, sym, true, false, IsTrue, None, Some, is_some, option_map, none-some, Indexed, changed}
+use Rattle.eco_entities.proofs.Common.{is_alive, may_rename, own_name, err_says, label_text, Registration, given_name, renamed, entity_of}
 use Rattle.eco_entities.proofs.NamedEntities.{registry_named_entity, registry_shown}
 use Rattle.eco_entities.proofs.Owners.{own-renamed}
 use Rattle.eco_entities.proofs.Registers.{keeps_undone, registry_exchange, registry_gain, registry_same}
 use Rattle.eco_entities.proofs.Renaming.{rename_free, rename_may, uncalled}
-use Rattle.eco_entities.proofs.entity_index.EntityIndex.give_name.Goals as goal
 use Rattle.eco_entities.proofs.entity_index.EntityIndex.give_name.Goals.{After-self}
+use Rattle.eco_entities.proofs.entity_index.EntityIndex.give_name.Goals as goal
 
 pub invariant_of-self-in-Ok-Some : goal.invariant_of-self-in-Ok-Some
 invariant_of-self-in-Ok-Some c =

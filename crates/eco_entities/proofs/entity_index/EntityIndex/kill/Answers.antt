@@ -1,8 +1,5 @@
-use Rattle.std.proofs.lemmas.Grind.{common_steps}
-use Rattle.std.proofs.Common.{◌≡◌, refl, ap, ◌∙◌, true, None, arith}
-use Rattle.eco_ids.specs.Indices.{Indexed, is_alive}
-use Rattle.eco_ids.specs.Renaming.{own_name}
-use Rattle.eco_entities.specs.Registration.{Registration, given_name, renamed}
+use Rattle.eco_entities.proofs.Common.{common_steps, ◌≡◌, refl, ap, ◌∙◌, true, None, arith, Indexed, is_alive, own_name, Registration, given_name}
+use Rattle.eco_entities.proofs.Common.{renamed}
 use Rattle.eco_entities.proofs.Owners.{own-died, own-renamed, death_of_renamed, alive_changed}
 use Rattle.eco_entities.proofs.Registers.{registry_nameless}
 use Rattle.eco_entities.proofs.entity_index.EntityIndex.kill.Goals as goal

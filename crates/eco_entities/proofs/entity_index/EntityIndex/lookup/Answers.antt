@@ -1,5 +1,4 @@
-use Rattle.std.proofs.lemmas.Grind.{common_steps}
-use Rattle.std.proofs.Common.{arith}
+use Rattle.eco_entities.proofs.Common.{common_steps, arith}
 use Rattle.eco_entities.proofs.NamedEntities.{registry_named_entity}
 use Rattle.eco_entities.proofs.entity_index.EntityIndex.lookup.Goals as goal
 

@@ -1,6 +1,4 @@
-use Rattle.std.proofs.Common.{arith}
-use Rattle.std.proofs.lemmas.Option.{same_Some}
-use Rattle.std.proofs.lemmas.Grind.{common_steps}
+use Rattle.eco_entities.proofs.Common.{arith, same_Some, common_steps}
 use Rattle.eco_entities.proofs.Renaming.{uncalled, rename_taken, rename_same, same_entity, other_entity}
 use Rattle.eco_entities.proofs.entity_index.EntityIndex.rename.Goals as goal
 

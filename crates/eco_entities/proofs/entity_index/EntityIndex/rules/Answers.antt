@@ -1,5 +1,4 @@
-use Rattle.std.proofs.Common.{sym, ◌∙◌}
-use Rattle.std.proofs.lemmas.Option.{same_Some}
+use Rattle.eco_entities.proofs.Common.{sym, ◌∙◌, same_Some}
 use Rattle.eco_entities.specs.Rules.{IsRuled}
 use Rattle.eco_entities.proofs.entity_index.EntityIndex.rules.Goals as goal
 

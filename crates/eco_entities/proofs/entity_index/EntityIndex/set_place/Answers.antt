@@ -1,5 +1,4 @@
-use Rattle.std.proofs.lemmas.Grind.{common_steps}
-use Rattle.std.proofs.Common.{arith}
+use Rattle.eco_entities.proofs.Common.{common_steps, arith}
 use Rattle.eco_entities.proofs.Owners.{own-placed}
 use Rattle.eco_entities.proofs.Registers.{registry_same}
 use Rattle.eco_entities.proofs.entity_index.EntityIndex.set_place.Goals as goal

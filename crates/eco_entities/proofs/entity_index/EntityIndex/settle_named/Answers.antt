@@ -1,12 +1,9 @@
-use Rattle.std.proofs.Common.{◌≡◌, ◌∙◌, ap, refl, sym, Some, is_some}
-use Rattle.eco_ids.specs.Indices.{Indexed, next_entity, with_new}
-use Rattle.eco_entities.specs.Registration.{Registration, newcomer}
-use Rattle.eco_entities.specs.Registry.{entity_of}
+use Rattle.eco_entities.proofs.Common.{◌≡◌, ◌∙◌, ap, refl, sym, Some, is_some, Indexed, next_entity, with_new, Registration, newcomer, entity_of}
+use Rattle.eco_entities.proofs.Common.{err_says}
 use Rattle.eco_entities.proofs.NamedEntities.{registry_shown}
 use Rattle.eco_entities.proofs.Owners.{own-new, own_of_next}
 use Rattle.eco_entities.proofs.Registers.{keeps_undone, registry_same, registry_gain}
 use Rattle.eco_entities.proofs.Renaming.{fit_free}
-use Rattle.eco_ids.proofs.Results.{err_says}
 use Rattle.eco_entities.proofs.entity_index.EntityIndex.settle_named.Goals as goal
 
 pub invariant_of-self-in-Ok : goal.invariant_of-self-in-Ok

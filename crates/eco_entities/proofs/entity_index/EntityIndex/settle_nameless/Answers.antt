@@ -1,5 +1,4 @@
-use Rattle.std.proofs.Common.{◌≡◌, ◌∙◌, ap, refl, None, Some}
-use Rattle.eco_ids.specs.Indices.{next_entity}
+use Rattle.eco_entities.proofs.Common.{◌≡◌, ◌∙◌, ap, refl, None, Some, next_entity}
 use Rattle.eco_entities.proofs.Owners.{own-new, own_of_next}
 use Rattle.eco_entities.proofs.Registers.{registry_nameless}
 use Rattle.eco_entities.proofs.entity_index.EntityIndex.settle_nameless.Goals as goal

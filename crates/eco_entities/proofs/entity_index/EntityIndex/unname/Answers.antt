@@ -1,6 +1,4 @@
-use Rattle.std.proofs.Common.{◌≡◌, refl, sym, ap, ◌∙◌, None, Some}
-use Rattle.eco_ids.specs.Renaming.{own_name}
-use Rattle.eco_entities.specs.Registration.{given_name}
+use Rattle.eco_entities.proofs.Common.{◌≡◌, refl, sym, ap, ◌∙◌, None, Some, own_name, given_name}
 use Rattle.eco_entities.proofs.Owners.{own-renamed}
 use Rattle.eco_entities.proofs.Registers.{registry_lose, registry_nameless}
 use Rattle.eco_entities.proofs.entity_index.EntityIndex.unname.Goals as goal

@@ -1,4 +1,4 @@
-use Rattle.std.proofs.Common.{◌≡◌, Bool, List, ◌++◌, length, replicate, false, ap, sym, ◌∙◌, arith}
+use Rattle.eco_entities.proofs.Common.{◌≡◌, Bool, List, ◌++◌, length, replicate, false, ap, sym, ◌∙◌, arith}
 use Rattle.std.proofs.lemmas.List.{append-nil}
 use Rattle.eco_entities.proofs.Levels.{flags_grown, length-bits_below, levelled_indices}
 use Rattle.eco_entities.proofs.free_set.FreeSet.grow.Goals as goal

@@ -1,5 +1,4 @@
-use Rattle.std.proofs.lemmas.Grind.{common_steps}
-use Rattle.std.proofs.Common.{◌<◌, arith}
+use Rattle.eco_entities.proofs.Common.{common_steps, ◌<◌, arith}
 use Rattle.eco_entities.proofs.Levels.{in_flags, flags-with_bit, levelled-set}
 use Rattle.eco_entities.proofs.free_set.FreeSet.insert.Goals as goal
 

@@ -1,5 +1,4 @@
-use Rattle.std.proofs.lemmas.Grind.{common_steps}
-use Rattle.std.proofs.Common.{arith}
+use Rattle.eco_entities.proofs.Common.{common_steps, arith}
 use Rattle.eco_entities.proofs.Levels.{flags_filled_from, nothing_filled, levelled-fill, length-bits_below}
 use Rattle.eco_entities.proofs.free_set.FreeSet.insert_from.Goals as goal
 

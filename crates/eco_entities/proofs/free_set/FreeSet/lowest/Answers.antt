@@ -1,8 +1,5 @@
-use Rattle.std.proofs.lemmas.Grind.{common_steps}
-use Rattle.std.proofs.Common.{◌/◌, List, Some, None, Bool, ap, sym, ◌∙◌, arith}
-use Rattle.std.specs.List.{position_from}
+use Rattle.eco_entities.proofs.Common.{common_steps, ◌/◌, List, Some, None, Bool, ap, sym, ◌∙◌, arith, position_from, IsFirstWord}
 use Rattle.eco_entities.proofs.Bits.{first_word_or_none, none_of_none, has_bit_of_zero, within_of_word}
-use Rattle.eco_entities.specs.Words.{IsFirstWord}
 use Rattle.eco_entities.proofs.Levels.{flags_lowest, flags_none, below_len}
 use Rattle.eco_entities.proofs.free_set.FreeSet.lowest.Goals as goal
 

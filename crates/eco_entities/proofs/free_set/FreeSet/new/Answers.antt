@@ -1,4 +1,4 @@
-use Rattle.std.proofs.Common.{refl}
+use Rattle.eco_entities.proofs.Common.{refl}
 use Rattle.eco_entities.specs.FreeBits.{bits_below}
 use Rattle.eco_entities.proofs.Levels.{levelled_none}
 use Rattle.eco_entities.proofs.free_set.FreeSet.new.Goals as goal

@@ -1,11 +1,8 @@
-use Rattle.std.proofs.lemmas.Grind.{common_steps}
-use Rattle.std.proofs.Common.{◌≡◌, ◌<◌, ◌/◌, ◌∙◌, sym, get_or, refl, arith, eqb-true}
-use Rattle.std.proofs.lemmas.Bool.{eqb-false}
-use Rattle.eco_entities.specs.Words.{without_bit}
+use Rattle.eco_entities.proofs.Common.{common_steps, ◌≡◌, ◌<◌, ◌/◌, ◌∙◌, sym, get_or, refl, arith, eqb-true, eqb-false, without_bit}
 use Rattle.eco_entities.proofs.Bits.{length-without_bit, summarizes_emptied, summarizes_kept}
 use Rattle.eco_entities.proofs.Levels.{in_flags, flags-without_bit, levelled-clear}
-use Rattle.eco_entities.proofs.free_set.FreeSet.remove.Goals as goal
 use Rattle.eco_entities.proofs.free_set.FreeSet.remove.Goals.{else-clear-via-then-clear+else-clear-2, else-clear-via-else-clear}
+use Rattle.eco_entities.proofs.free_set.FreeSet.remove.Goals as goal
 
 pub clear-requires : goal.clear-requires
 clear-requires c =

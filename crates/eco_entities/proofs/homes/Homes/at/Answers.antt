@@ -1,5 +1,4 @@
-use Rattle.std.proofs.Common.{Some, sym, ap, ◌∙◌}
-use Rattle.eco_entities.specs.Labels.{label_of}
+use Rattle.eco_entities.proofs.Common.{Some, sym, ap, ◌∙◌, label_of}
 use Rattle.eco_entities.proofs.HomeStates.{home_of, home_shown, nobody_home, slot_within}
 use Rattle.eco_entities.proofs.homes.Homes.at.Goals as goal
 

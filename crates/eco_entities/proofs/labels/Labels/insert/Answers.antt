@@ -1,8 +1,6 @@
-use Rattle.std.proofs.Common.{◌≡◌, length, slice_get, refl, sym, ap, ◌∙◌, Some, option_map, arith, Result, Ok, Err, IfOk}
-use Rattle.std.proofs.lemmas.Option.{slice_get_read}
-use Rattle.eco_entities.specs.Label.{label_text}
+use Rattle.eco_entities.proofs.Common.{◌≡◌, length, slice_get, refl, sym, ap, ◌∙◌, Some, option_map, arith, Result, Ok, Err, IfOk, slice_get_read}
+use Rattle.eco_entities.proofs.Common.{label_text, on_ok}
 use Rattle.eco_entities.proofs.PageLists.{changes_then}
-use Rattle.eco_ids.proofs.Results.{on_ok}
 use Rattle.eco_entities.proofs.PageNames.{name_put, name_read}
 use Rattle.eco_entities.proofs.labels.Labels.insert.Goals as goal
 

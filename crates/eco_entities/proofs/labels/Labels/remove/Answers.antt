@@ -1,6 +1,4 @@
-use Rattle.std.proofs.Common.{length, slice_get, refl, sym, ap, ◌∙◌, ◌≡◌, Some, option_map, arith}
-use Rattle.std.proofs.lemmas.Option.{slice_get_read}
-use Rattle.eco_entities.specs.Label.{label_text}
+use Rattle.eco_entities.proofs.Common.{length, slice_get, refl, sym, ap, ◌∙◌, ◌≡◌, Some, option_map, arith, slice_get_read, label_text}
 use Rattle.eco_entities.proofs.PageNames.{name_read, name_taken, nameless}
 use Rattle.eco_entities.proofs.labels.Labels.remove.Goals as goal
 

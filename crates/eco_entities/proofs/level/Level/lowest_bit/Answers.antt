@@ -1,5 +1,4 @@
-use Rattle.std.proofs.Common.{◌≡◌, ◌<◌, ◌^◌, get_or, arith}
-use Rattle.std.proofs.lemmas.Grind.{common_steps}
+use Rattle.eco_entities.proofs.Common.{◌≡◌, ◌<◌, ◌^◌, get_or, arith, common_steps}
 use Rattle.eco_entities.proofs.Bits.{lowest_of_first}
 use Rattle.eco_entities.proofs.level.Level.lowest_bit.Goals as goal
 

@@ -1,5 +1,4 @@
-use Rattle.std.proofs.Common.{arith}
-use Rattle.std.proofs.lemmas.Grind.{common_steps}
+use Rattle.eco_entities.proofs.Common.{arith, common_steps}
 use Rattle.eco_entities.specs.Words.{with_bit}
 use Rattle.eco_entities.proofs.level.Level.set.Goals as goal
 

@@ -1,6 +1,4 @@
-use Rattle.std.proofs.Common.{rules, inl, inr, arith}
-use Rattle.std.proofs.lemmas.Bool.{cases_lt}
-use Rattle.std.specs.Int.Bits.{or_zero_r}
+use Rattle.eco_entities.proofs.Common.{rules, inl, inr, arith, cases_lt, or_zero_r}
 use Rattle.eco_entities.proofs.Bits.{mask_before, mask_after}
 use Rattle.eco_entities.proofs.level.Level.set_range.Goals as goal
 

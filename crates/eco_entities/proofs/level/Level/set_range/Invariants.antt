@@ -1,5 +1,4 @@
-use Rattle.std.proofs.Common.{◌≡◌, ℕ, ◌<◌, ◌≤◌, length, slice_index, bit_or}
-use Rattle.eco_entities.specs.Words.{range_mask}
+use Rattle.eco_entities.proofs.Common.{◌≡◌, ℕ, ◌<◌, ◌≤◌, length, slice_index, bit_or, range_mask}
 use Rattle.eco_entities.proofs.level.Level.set_range.Given as goal
 
 abbrev pub invariant-loop-at : goal.invariant-loop-at

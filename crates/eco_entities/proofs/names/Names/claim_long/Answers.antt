@@ -1,9 +1,5 @@
-use Rattle.std.proofs.lemmas.Grind.{common_steps}
-use Rattle.std.proofs.Common.{◌≡◌, length, nat_le, cond, ap, ◌∙◌, Some, None, arith}
-use Rattle.std.proofs.lemmas.Map.Text.{btree_map_updates_text}
-use Rattle.std.specs.BTreeMap.{get_by_text}
-use Rattle.std.specs.Prelude.{string_bytes}
-use Rattle.eco_entities.specs.Registry.{short_entity_of}
+use Rattle.eco_entities.proofs.Common.{common_steps, ◌≡◌, length, nat_le, cond, ap, ◌∙◌, Some, None, arith, btree_map_updates_text, get_by_text}
+use Rattle.eco_entities.proofs.Common.{string_bytes, short_entity_of}
 use Rattle.eco_entities.proofs.Texts.{changes_text, right_changes}
 use Rattle.eco_entities.proofs.names.Names.claim_long.Goals as goal
 

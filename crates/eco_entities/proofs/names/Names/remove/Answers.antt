@@ -1,7 +1,4 @@
-use Rattle.std.proofs.Common.{length, nat_le, None}
-use Rattle.std.proofs.lemmas.Map.Text.{btree_map_updates_text}
-use Rattle.std.specs.BTreeMap.{get_by_text}
-use Rattle.eco_entities.specs.Registry.{short_entity_of}
+use Rattle.eco_entities.proofs.Common.{length, nat_le, None, btree_map_updates_text, get_by_text, short_entity_of}
 use Rattle.eco_entities.proofs.Texts.{changes_text, left_changes, right_changes}
 use Rattle.eco_entities.proofs.names.Names.remove.Goals as goal
 

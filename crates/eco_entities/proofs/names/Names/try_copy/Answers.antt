@@ -1,9 +1,4 @@
-use Rattle.std.proofs.Common.{◌≡◌, cond, length, nat_le, ap, ◌∙◌}
-use Rattle.std.specs.BTreeMap.{get_by_text}
-use Rattle.std.specs.Prelude.{string_bytes}
-use Rattle.std.specs.Ordering.{nat_cmp, is_eq}
-use Rattle.std.specs.Cmp.Lexicographic.{slice_cmp}
-use Rattle.eco_entities.specs.Registry.{short_entity_of}
+use Rattle.eco_entities.proofs.Common.{◌≡◌, cond, length, nat_le, ap, ◌∙◌, get_by_text, string_bytes, nat_cmp, is_eq, slice_cmp, short_entity_of}
 use Rattle.eco_entities.proofs.Copies.{lookup_keys}
 use Rattle.eco_entities.proofs.names.Names.try_copy.Goals as goal
 

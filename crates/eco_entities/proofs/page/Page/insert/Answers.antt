@@ -1,7 +1,4 @@
-use Rattle.std.proofs.Common.{sym, ap, ◌∙◌, subst, Some}
-use Rattle.std.specs.Ordering.{nat_cmp}
-use Rattle.std.specs.FinMap.Entries.{find, put}
-use Rattle.eco_entities.specs.Pages.{IsEntry, IsGap}
+use Rattle.eco_entities.proofs.Common.{sym, ap, ◌∙◌, subst, Some, nat_cmp, find, put, IsEntry, IsGap}
 use Rattle.eco_entities.proofs.PageChanges.{entry_read, sorted_put}
 use Rattle.eco_entities.proofs.page.Page.insert.Goals as goal
 

@@ -1,7 +1,4 @@
-use Rattle.std.proofs.Common.{ap, ◌∙◌, subst}
-use Rattle.std.specs.Ordering.{nat_cmp}
-use Rattle.std.specs.FinMap.Entries.{find}
-use Rattle.eco_entities.specs.Pages.{IsEntry}
+use Rattle.eco_entities.proofs.Common.{ap, ◌∙◌, subst, nat_cmp, find, IsEntry}
 use Rattle.eco_entities.proofs.PageChanges.{entry_read, sorted_where}
 use Rattle.eco_entities.proofs.page.Page.remove.Goals as goal
 

@@ -1,5 +1,4 @@
-use Rattle.std.proofs.Common.{◌∙◌, subst}
-use Rattle.eco_entities.specs.Pages.{SameTexts}
+use Rattle.eco_entities.proofs.Common.{◌∙◌, subst, SameTexts}
 use Rattle.eco_entities.proofs.PageChanges.{copied_sorted, copied_texts}
 use Rattle.eco_entities.proofs.page.PageClone.clone.Goals as goal
 

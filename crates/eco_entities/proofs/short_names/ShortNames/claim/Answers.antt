@@ -1,8 +1,6 @@
-use Rattle.std.proofs.Common.{◌≡◌, ◌+◌, ◌<◌, ◌%◌, length, slice_get, refl, sym, ap, ◌∙◌, Some, None, is_some, arith}
-use Rattle.std.proofs.lemmas.Option.{slice_get_read}
-use Rattle.eco_entities.specs.Keys.{found_in, hash_of}
+use Rattle.eco_entities.proofs.Common.{◌≡◌, ◌+◌, ◌<◌, ◌%◌, length, slice_get, refl, sym, ap, ◌∙◌, Some, None, is_some, arith}
+use Rattle.eco_entities.proofs.Common.{slice_get_read, found_in, hash_of, err_says, on_err, on_ok}
 use Rattle.eco_entities.proofs.PageLists.{changes_then, keeps_then}
-use Rattle.eco_ids.proofs.Results.{err_says, on_err, on_ok}
 use Rattle.eco_entities.proofs.Trees.{changes_tree, put_back, tree_changed, tree_finds, tree_kept, tree_read, tree_unchanged, treeless}
 use Rattle.eco_entities.proofs.short_names.ShortNames.claim.Goals as goal
 

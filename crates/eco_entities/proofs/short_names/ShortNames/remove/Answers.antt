@@ -1,5 +1,4 @@
-use Rattle.std.proofs.Common.{◌≡◌, ◌%◌, length, slice_get, refl, ap, ◌∙◌, Some, None, arith}
-use Rattle.std.proofs.lemmas.Option.{slice_get_read}
+use Rattle.eco_entities.proofs.Common.{◌≡◌, ◌%◌, length, slice_get, refl, ap, ◌∙◌, Some, None, arith, slice_get_read}
 use Rattle.eco_entities.proofs.Trees.{changes_tree, tree_changed, treeless}
 use Rattle.eco_entities.proofs.short_names.ShortNames.remove.Goals as goal
 

@@ -1,5 +1,4 @@
-use Rattle.std.proofs.Common.{◌≡◌, sym, ap, ◌∙◌, option_and_then}
-use Rattle.eco_entities.specs.Slots.{arity_in, living_slot}
+use Rattle.eco_entities.proofs.Common.{◌≡◌, sym, ap, ◌∙◌, option_and_then, arity_in, living_slot}
 use Rattle.eco_entities.proofs.Shown.{arity_shown}
 use Rattle.eco_entities.proofs.slots.Slots.arity.Goals as goal
 

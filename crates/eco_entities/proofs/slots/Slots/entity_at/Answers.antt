@@ -1,5 +1,4 @@
-use Rattle.std.proofs.lemmas.Grind.{common_steps}
-use Rattle.std.proofs.Common.{arith}
+use Rattle.eco_entities.proofs.Common.{common_steps, arith}
 use Rattle.eco_entities.proofs.Shown.{entity_shown, nobody_shown, state_shown}
 use Rattle.eco_entities.proofs.slots.Slots.entity_at.Goals as goal
 

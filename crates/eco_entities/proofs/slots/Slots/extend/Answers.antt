@@ -1,11 +1,8 @@
-use Rattle.std.proofs.lemmas.Grind.{common_steps}
-use Rattle.std.proofs.Common.{◌≡◌, ◌++◌, ap, ◌∙◌, length, replicate, arith}
-use Rattle.eco_ids.specs.Indices.{admitted}
-use Rattle.eco_entities.specs.Labels.{label_of}
+use Rattle.eco_entities.proofs.Common.{common_steps, ◌≡◌, ◌++◌, ap, ◌∙◌, length, replicate, arith, admitted, label_of}
 use Rattle.eco_entities.proofs.Marks.{ShowsMarked, marks_as_slots, room_inside, slots_admitted}
 use Rattle.std.proofs.lemmas.List.{length-append, length-replicate}
-use Rattle.eco_entities.proofs.slots.Slots.extend.Goals as goal
 use Rattle.eco_entities.proofs.slots.Slots.extend.Goals.{After-push_copies}
+use Rattle.eco_entities.proofs.slots.Slots.extend.Goals as goal
 
 -- the free indices are there, and marked
 admitted_there : (c : goal.After-push_copies) → ShowsMarked c.self.inside.limit (label_of c.self.inside.labels) c.push_copies.new.slots.items

@@ -1,16 +1,9 @@
-use Rattle.std.proofs.lemmas.Grind.{common_steps}
-use Rattle.std.proofs.Common.{cond, set, ap, ◌∙◌, Some, None, option_map, arith}
-use Rattle.eco_ids.specs.Indices.{map_state}
-use Rattle.eco_entities.specs.Label.{label_text}
-use Rattle.eco_entities.specs.Labels.{label_of}
-use Rattle.eco_entities.specs.Registration.{renamed}
-use Rattle.eco_entities.specs.Slots.{state_of}
-use Rattle.eco_ids.specs.Indices.{changed}
+use Rattle.eco_entities.proofs.Common.{common_steps, cond, set, ap, ◌∙◌, Some, None, option_map, arith, map_state, label_text, label_of, renamed}
+use Rattle.eco_entities.proofs.Common.{state_of, changed}
 use Rattle.eco_entities.proofs.Marks.{ShowsMarked, alive_within, slot_changed}
 use Rattle.eco_entities.proofs.Shown.{name_read}
+use Rattle.eco_entities.proofs.slots.Slots.give_name.Goals.{After-set_named, then-is_named, else-is_named}
 use Rattle.eco_entities.proofs.slots.Slots.give_name.Goals as goal
-use Rattle.eco_entities.proofs.slots.Slots.give_name.Goals.{After-set_named}
-use Rattle.eco_entities.proofs.slots.Slots.give_name.Goals.{then-is_named, else-is_named}
 
 pub index_mut-slot-requires : goal.index_mut-slot-requires
 index_mut-slot-requires c = grind (arith, common_steps, alive_within)

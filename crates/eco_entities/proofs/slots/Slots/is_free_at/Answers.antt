@@ -1,7 +1,4 @@
-use Rattle.std.proofs.lemmas.Grind.{common_steps}
-use Rattle.std.proofs.Common.{◌==◌, sym, ap, ◌∙◌, arith}
-use Rattle.eco_ids.specs.Indices.{is_free_in}
-use Rattle.eco_entities.specs.Labels.{label_of}
+use Rattle.eco_entities.proofs.Common.{common_steps, ◌==◌, sym, ap, ◌∙◌, arith, is_free_in, label_of}
 use Rattle.eco_entities.proofs.Shown.{free_shown, state_shown, used_shown}
 use Rattle.eco_entities.proofs.slots.Slots.is_free_at.Goals as goal
 

@@ -1,11 +1,7 @@
-use Rattle.std.proofs.lemmas.Grind.{common_steps}
-use Rattle.std.proofs.Common.{ap, ◌∙◌, set, arith}
-use Rattle.eco_entities.specs.Labels.{label_of}
-use Rattle.eco_ids.specs.Indices.{with_death}
+use Rattle.eco_entities.proofs.Common.{common_steps, ap, ◌∙◌, set, arith, label_of, with_death}
 use Rattle.eco_entities.proofs.Marks.{ShowsMarked, alive_within, living_unmarked, marks_as_slots, slot_died}
+use Rattle.eco_entities.proofs.slots.Slots.kill.Goals.{Joined-is_free, then-is_free, else-is_free}
 use Rattle.eco_entities.proofs.slots.Slots.kill.Goals as goal
-use Rattle.eco_entities.proofs.slots.Slots.kill.Goals.{Joined-is_free}
-use Rattle.eco_entities.proofs.slots.Slots.kill.Goals.{then-is_free, else-is_free}
 
 -- the slot after the death, and the marks whichever way
 died : (c : goal.Joined-is_free) → ShowsMarked c.if-is_free.self-inside.limit (label_of c.if-is_free.self-inside.labels)

@@ -1,6 +1,4 @@
-use Rattle.std.proofs.Common.{◌≡◌, Some, None, sym, ap, ◌∙◌, slice_get}
-use Rattle.eco_entities.specs.Labels.{label_of}
-use Rattle.eco_entities.specs.Needs.{need_in}
+use Rattle.eco_entities.proofs.Common.{◌≡◌, Some, None, sym, ap, ◌∙◌, slice_get, label_of, need_in}
 use Rattle.eco_entities.proofs.Shown.{state_shown}
 use Rattle.eco_entities.proofs.slots.Slots.need.Goals as goal
 

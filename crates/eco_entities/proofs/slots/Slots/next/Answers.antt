@@ -1,8 +1,7 @@
-use Rattle.std.proofs.lemmas.Grind.{common_steps}
-use Rattle.std.proofs.Common.{◌<◌, arith}
+use Rattle.eco_entities.proofs.Common.{common_steps, ◌<◌, arith}
 use Rattle.eco_entities.proofs.Marks.{mark_within, next_marked, next_fresh, next_over}
-use Rattle.eco_entities.proofs.slots.Slots.next.Goals as goal
 use Rattle.eco_entities.proofs.slots.Slots.next.Goals.{in-Some, in-None}
+use Rattle.eco_entities.proofs.slots.Slots.next.Goals as goal
 
 pub returns-in-None-2 : goal.returns-in-None-2
 returns-in-None-2 c =

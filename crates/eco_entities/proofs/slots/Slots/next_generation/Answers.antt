@@ -1,7 +1,4 @@
-use Rattle.std.proofs.lemmas.Grind.{common_steps}
-use Rattle.std.proofs.Common.{sym, ap, ◌∙◌, arith}
-use Rattle.eco_entities.specs.Labels.{label_of}
-use Rattle.eco_entities.specs.Slots.{next_generation}
+use Rattle.eco_entities.proofs.Common.{common_steps, sym, ap, ◌∙◌, arith, label_of, next_generation}
 use Rattle.eco_entities.proofs.Shown.{free_shown, state_shown, used_shows_none}
 use Rattle.eco_entities.proofs.slots.Slots.next_generation.Goals as goal
 

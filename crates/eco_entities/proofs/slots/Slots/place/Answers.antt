@@ -1,5 +1,4 @@
-use Rattle.std.proofs.Common.{◌≡◌, sym, ap, ◌∙◌, option_and_then}
-use Rattle.eco_entities.specs.Slots.{place_in, living_slot}
+use Rattle.eco_entities.proofs.Common.{◌≡◌, sym, ap, ◌∙◌, option_and_then, place_in, living_slot}
 use Rattle.eco_entities.proofs.Shown.{place_shown}
 use Rattle.eco_entities.proofs.slots.Slots.place.Goals as goal
 

@@ -1,7 +1,4 @@
-use Rattle.std.proofs.lemmas.Grind.{common_steps}
-use Rattle.std.proofs.Common.{refl, arith}
-use Rattle.eco_entities.specs.Labels.{label_of}
-use Rattle.eco_entities.specs.Registration.{placed}
+use Rattle.eco_entities.proofs.Common.{common_steps, refl, arith, label_of, placed}
 use Rattle.eco_entities.proofs.Marks.{alive_within, slot_changed}
 use Rattle.eco_entities.proofs.slots.Slots.set_place.Goals as goal
 

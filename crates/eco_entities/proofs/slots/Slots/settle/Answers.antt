@@ -1,11 +1,7 @@
-use Rattle.std.proofs.lemmas.Grind.{common_steps}
-use Rattle.std.proofs.Common.{None, arith, set}
-use Rattle.eco_entities.specs.Labels.{label_of}
-use Rattle.eco_ids.specs.Indices.{with_record}
-use Rattle.eco_entities.specs.Registration.{newcomer}
+use Rattle.eco_entities.proofs.Common.{common_steps, None, arith, set, label_of, with_record, newcomer}
 use Rattle.eco_entities.proofs.Marks.{ShowsMarked, free_within, slot_put}
-use Rattle.eco_entities.proofs.slots.Slots.settle.Goals as goal
 use Rattle.eco_entities.proofs.slots.Slots.settle.Goals.{After-newcomer}
+use Rattle.eco_entities.proofs.slots.Slots.settle.Goals as goal
 
 -- the slot at which it came to live
 put : (c : goal.After-newcomer) → ShowsMarked c.self.inside.limit (label_of c.self.inside.labels)

@@ -1,6 +1,4 @@
-use Rattle.std.proofs.Common.{refl, None, sym, arith}
-use Rattle.eco_entities.specs.Labels.{label_of}
-use Rattle.eco_entities.specs.Registration.{newcomer, placed}
+use Rattle.eco_entities.proofs.Common.{refl, None, sym, arith, label_of, newcomer, placed}
 use Rattle.eco_entities.proofs.Marks.{next_slot, slot_settled}
 use Rattle.eco_entities.proofs.slots.Slots.settle_in_room.Goals as goal
 

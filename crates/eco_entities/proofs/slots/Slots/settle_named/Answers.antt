@@ -1,12 +1,7 @@
-use Rattle.std.proofs.Common.{ap, ◌∙◌, Some, arith}
-use Rattle.eco_ids.specs.Indices.{Living}
-use Rattle.eco_entities.specs.Label.{label_text}
-use Rattle.eco_entities.specs.Labels.{label_of}
-use Rattle.eco_entities.specs.Registration.{newcomer}
-use Rattle.eco_ids.specs.Indices.{with_new}
+use Rattle.eco_entities.proofs.Common.{ap, ◌∙◌, Some, arith, Living, label_text, label_of, newcomer, with_new}
 use Rattle.eco_entities.proofs.Marks.{ShowsMarked, next_slot, next_unlabelled, slot_settled}
-use Rattle.eco_entities.proofs.slots.Slots.settle_named.Goals as goal
 use Rattle.eco_entities.proofs.slots.Slots.settle_named.Goals.{In-Ok}
+use Rattle.eco_entities.proofs.slots.Slots.settle_named.Goals as goal
 
 pub put-requires : goal.put-requires
 put-requires c = next_slot c.self.inside c.args.self.now c.self.invariant c.self.view_is c.args.entity c.requires

@@ -1,12 +1,8 @@
-use Rattle.std.proofs.lemmas.Grind.{common_steps}
-use Rattle.std.proofs.Common.{cond, set, ap, ◌∙◌, None, arith}
-use Rattle.eco_entities.specs.Labels.{label_of}
-use Rattle.eco_entities.specs.Registration.{renamed}
-use Rattle.eco_ids.specs.Indices.{changed}
+use Rattle.eco_entities.proofs.Common.{common_steps, cond, set, ap, ◌∙◌, None, arith, label_of, renamed, changed}
 use Rattle.eco_entities.proofs.Marks.{ShowsMarked, alive_within, slot_changed, unnamed_same}
 use Rattle.eco_entities.proofs.Shown.{name_read}
-use Rattle.eco_entities.proofs.slots.Slots.take_name.Goals as goal
 use Rattle.eco_entities.proofs.slots.Slots.take_name.Goals.{After-remove}
+use Rattle.eco_entities.proofs.slots.Slots.take_name.Goals as goal
 
 pub index-requires : goal.index-requires
 index-requires c = grind (arith, common_steps, alive_within)

@@ -1,4 +1,4 @@
-use Rattle.std.proofs.Common.{ap, ◌∙◌, ◌++◌}
+use Rattle.eco_entries.proofs.Common.{ap, ◌∙◌, ◌++◌}
 use Rattle.eco_entries.proofs.Chunked.{led_more}
 use Rattle.eco_entries.proofs.choices.Choices.add_led.Goals as goal
 

@@ -1,5 +1,4 @@
-use Rattle.std.proofs.Common.{◌≡◌, ◌++◌, ◌∷◌, take}
-use Rattle.std.specs.Prelude.{flat_map}
+use Rattle.eco_entries.proofs.Common.{◌≡◌, ◌++◌, ◌∷◌, take, flat_map}
 use Rattle.eco_entries.proofs.choices.Choices.add_led.Given as goal
 
 abbrev pub invariant-loop-place : goal.invariant-loop-place

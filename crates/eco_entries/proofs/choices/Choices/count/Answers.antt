@@ -1,4 +1,4 @@
-use Rattle.std.proofs.Common.{sym}
+use Rattle.eco_entries.proofs.Common.{sym}
 use Rattle.eco_entries.proofs.Chunked.{length_chunks}
 use Rattle.eco_entries.proofs.choices.Choices.count.Goals as goal
 

@@ -1,5 +1,4 @@
-use Rattle.std.proofs.Common.{◌≡◌, ap, ◌∙◌, length, rules}
-use Rattle.eco_entries.specs.Flat.{chunks}
+use Rattle.eco_entries.proofs.Common.{◌≡◌, ap, ◌∙◌, length, rules, chunks}
 use Rattle.eco_entries.proofs.Chunked.{chunks_alone}
 use Rattle.eco_entries.proofs.choices.Choices.each.Goals as goal
 

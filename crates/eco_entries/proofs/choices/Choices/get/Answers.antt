@@ -1,4 +1,4 @@
-use Rattle.std.proofs.Common.{◌<◌, ap, length, arith}
+use Rattle.eco_entries.proofs.Common.{◌<◌, ap, length, arith}
 use Rattle.eco_entries.proofs.Chunked.{length_chunks, chunk_within}
 use Rattle.eco_entries.proofs.choices.Choices.get.Goals as goal
 

@@ -1,7 +1,4 @@
-use Rattle.std.proofs.Common.{◌≡◌, ◌∷◌, ◌/◌, ◌*◌, suc, length, ap, sym, ◌∙◌, arith}
-use Rattle.std.specs.Prelude.{flat_map}
-use Rattle.std.proofs.lemmas.List.{take_all}
-use Rattle.eco_entries.specs.Flat.{chunks}
+use Rattle.eco_entries.proofs.Common.{◌≡◌, ◌∷◌, ◌/◌, ◌*◌, suc, length, ap, sym, ◌∙◌, arith, flat_map, take_all, chunks}
 use Rattle.eco_entries.proofs.Chunked.{led_length, led_chunks}
 use Rattle.eco_entries.proofs.choices.Choices.led_by.Goals as goal
 

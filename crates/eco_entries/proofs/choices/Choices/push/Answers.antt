@@ -1,5 +1,4 @@
-use Rattle.std.proofs.Common.{◌∷◌, [], ◌+◌, ◌++◌, ap, sym, ◌∙◌}
-use Rattle.eco_entries.specs.Flat.{chunks, ChoicesState}
+use Rattle.eco_entries.proofs.Common.{◌∷◌, [], ◌+◌, ◌++◌, ap, sym, ◌∙◌, chunks, ChoicesState}
 use Rattle.eco_entries.proofs.Chunked.{chunk_alone, chunks_append}
 use Rattle.eco_entries.proofs.choices.Choices.push.Goals as goal
 

@@ -1,9 +1,7 @@
-use Rattle.std.proofs.Common.{◌≡◌, ◌∷◌, [], ◌+◌, ◌++◌, ap, sym, ◌∙◌, length, length-append, arith}
-use Rattle.eco_ids.specs.Answer as answers
-use Rattle.eco_entries.specs.Answers.{asks}
-use Rattle.eco_entries.specs.Flat.{chunks, ChoicesState}
+use Rattle.eco_entries.proofs.Common.{◌≡◌, ◌∷◌, [], ◌+◌, ◌++◌, ap, sym, ◌∙◌, length, length-append, arith, asks, chunks, ChoicesState}
 use Rattle.eco_entries.proofs.Chunked.{chunk_alone, chunks_append}
 use Rattle.eco_entries.proofs.Only.{only_is}
+use Rattle.eco_ids.specs.Answer as answers
 use Rattle.eco_entries.proofs.choices.Choices.push_only.Goals as goal
 
 pub returns-in-Ok-true-clause-only : goal.returns-in-Ok-true-clause-only

@@ -1,6 +1,4 @@
-use Rattle.std.proofs.Common.{◌*◌, [], ap, sym, ◌∙◌}
-use Rattle.std.specs.List.{swap_remove}
-use Rattle.eco_entries.specs.Flat.{chunks, ChoicesState}
+use Rattle.eco_entries.proofs.Common.{◌*◌, [], ap, sym, ◌∙◌, swap_remove, chunks, ChoicesState}
 use Rattle.eco_entries.proofs.Chunked.{count_before}
 use Rattle.eco_entries.proofs.choices.Choices.swap_remove.Goals as goal
 

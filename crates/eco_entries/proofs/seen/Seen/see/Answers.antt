@@ -1,8 +1,4 @@
-use Rattle.std.proofs.Common.{rules, not, ◌||◌, ap, sym, ◌∙◌}
-use Rattle.std.specs.Prelude.{IsTrue}
-use Rattle.std.specs.BTreeSet.{contains}
-use Rattle.eco_ids.specs.Order.{has_item, id_cmp}
-use Rattle.eco_entries.specs.Seen.{is_above}
+use Rattle.eco_entries.proofs.Common.{rules, not, ◌||◌, ap, sym, ◌∙◌, IsTrue, contains, has_item, id_cmp, is_above}
 use Rattle.eco_entries.proofs.SeenIds.{above_absent, above_front, ascends_more, seen_behind}
 use Rattle.eco_entries.proofs.seen.Seen.see.Goals as goal
 

@@ -1,4 +1,4 @@
-use Rattle.std.proofs.Common.{append_assoc}
+use Rattle.eco_formats.proofs.Common.{append_assoc}
 use Rattle.eco_formats.proofs.lines.EntityLineDisplay.fmt.Goals as goal
 
 pub returns-clause-writes : goal.returns-clause-writes

@@ -1,7 +1,4 @@
-use Rattle.std.proofs.Common.{None, true, refl, subst}
-use Rattle.std.proofs.lemmas.List.{take_all}
-use Rattle.std.specs.Fmt.{HasWritten}
-use Rattle.eco_formats.specs.Lines.{entry_text, joined_by_commas}
+use Rattle.eco_formats.proofs.Common.{None, true, refl, subst, take_all, HasWritten, entry_text, joined_by_commas}
 use Rattle.eco_formats.proofs.Joined.{joined_more, next_separator}
 use Rattle.eco_formats.proofs.lines.EntriesDisplay.fmt.Goals as goal
 

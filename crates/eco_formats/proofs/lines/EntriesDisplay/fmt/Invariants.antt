@@ -1,6 +1,4 @@
-use Rattle.std.proofs.Common.{◌≡◌, take}
-use Rattle.std.specs.Fmt.{HasWritten, IsPlainFormatter}
-use Rattle.eco_formats.specs.Lines.{entry_text, joined_by_commas}
+use Rattle.eco_formats.proofs.Common.{◌≡◌, take, HasWritten, IsPlainFormatter, entry_text, joined_by_commas}
 use Rattle.eco_formats.proofs.Joined.{separator}
 use Rattle.eco_formats.proofs.lines.EntriesDisplay.fmt.Given as goal
 

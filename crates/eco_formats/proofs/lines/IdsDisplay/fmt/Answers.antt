@@ -1,8 +1,4 @@
-use Rattle.std.proofs.Common.{true, refl, subst}
-use Rattle.std.proofs.lemmas.List.{take_all}
-use Rattle.std.specs.Fmt.{HasWritten}
-use Rattle.eco_formats.specs.Lines.{held_text, joined_by_commas}
-use Rattle.eco_formats.specs.Values.{shown_value}
+use Rattle.eco_formats.proofs.Common.{true, refl, subst, take_all, HasWritten, held_text, joined_by_commas, shown_value}
 use Rattle.eco_formats.proofs.Joined.{joined_more, next_separator, same_held}
 use Rattle.eco_formats.proofs.lines.IdsDisplay.fmt.Goals as goal
 

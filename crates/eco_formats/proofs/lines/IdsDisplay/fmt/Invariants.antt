@@ -1,7 +1,4 @@
-use Rattle.std.proofs.Common.{◌≡◌, take}
-use Rattle.std.specs.Fmt.{HasWritten, IsPlainFormatter}
-use Rattle.eco_formats.specs.Lines.{held_text, joined_by_commas}
-use Rattle.eco_formats.specs.Values.{shown_value}
+use Rattle.eco_formats.proofs.Common.{◌≡◌, take, HasWritten, IsPlainFormatter, held_text, joined_by_commas, shown_value}
 use Rattle.eco_formats.proofs.Joined.{separator}
 use Rattle.eco_formats.proofs.lines.IdsDisplay.fmt.Given as goal
 

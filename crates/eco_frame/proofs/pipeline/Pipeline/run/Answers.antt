@@ -1,9 +1,4 @@
-use Rattle.std.proofs.Common.{Err, IfErr, map, subst}
-use Rattle.eco_bodies.specs.declared.systems.System.{System}
-use Rattle.eco_systems.specs.Systems.{SystemModel}
-use Rattle.eco_frame.specs.Models.{model_of}
-use Rattle.eco_frame.specs.Reports.{IsFrameBy}
-use Rattle.eco_frame.specs.Stops.{IsWhy}
+use Rattle.eco_frame.proofs.Common.{Err, IfErr, map, subst, System, SystemModel, model_of, IsFrameBy, IsWhy}
 use Rattle.eco_frame.proofs.pipeline.Pipeline.run.Goals as goal
 
 pub returns-in_default-clause-frame : goal.returns-in_default-clause-frame

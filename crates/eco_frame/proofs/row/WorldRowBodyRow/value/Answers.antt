@@ -1,4 +1,4 @@
-use Rattle.std.proofs.Common.{◌∙◌, None, Some}
+use Rattle.eco_frame.proofs.Common.{◌∙◌, None, Some}
 use Rattle.eco_ids.specs.Data.{value_of}
 use Rattle.eco_frame.proofs.Shown.{none_is, value_is}
 use Rattle.eco_frame.proofs.row.WorldRowBodyRow.value.Goals as goal

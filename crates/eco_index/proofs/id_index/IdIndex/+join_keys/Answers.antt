@@ -1,5 +1,4 @@
-use Rattle.std.proofs.Common.{◌≡◌, ◌∷◌, Bool, false, true, not, ap, sym, subst, ◌∙◌}
-use Rattle.eco_index.specs.IdIndex.{Turns, has_one, lists_of}
+use Rattle.eco_index.proofs.Common.{◌≡◌, ◌∷◌, Bool, false, true, not, ap, sym, subst, ◌∙◌, Turns, has_one, lists_of}
 use Rattle.eco_index.proofs.Joinings.{listed_as, turned_back, turned_none, turns_both}
 use Rattle.eco_index.proofs.id_index.IdIndex.+join_keys.Goals as goal
 

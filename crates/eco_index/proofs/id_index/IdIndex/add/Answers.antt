@@ -1,7 +1,4 @@
-use Rattle.std.proofs.Common.{true, true≢false, is_some, slice_get, Some, ap, ◌∙◌, cond, nat_eq}
-use Rattle.indexmap.specs.IndexMap.{with_value_at}
-use Rattle.eco_index.specs.IdIndex.{has_slot, is_empty}
-use Rattle.eco_ids.proofs.Results.{on_err, on_ok}
+use Rattle.eco_index.proofs.Common.{true, true≢false, is_some, slice_get, Some, ap, ◌∙◌, cond, nat_eq, with_value_at, has_slot, is_empty, on_err, on_ok}
 use Rattle.eco_index.proofs.Keys.{as_before, none_empty, still_marked, turned}
 use Rattle.eco_index.proofs.Places.{same_slots, written_at}
 use Rattle.eco_index.proofs.id_index.IdIndex.add.Goals as goal

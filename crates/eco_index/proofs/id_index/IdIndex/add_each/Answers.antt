@@ -1,6 +1,4 @@
-use Rattle.std.proofs.Common.{true, arith}
-use Rattle.eco_index.specs.IdIndex.{lists_of, matches_id}
-use Rattle.eco_ids.proofs.Results.{err_says}
+use Rattle.eco_index.proofs.Common.{true, arith, lists_of, matches_id, err_says}
 use Rattle.eco_index.proofs.Keys.{kept_rest, turned_last, turned_more}
 use Rattle.eco_index.proofs.id_index.IdIndex.add_each.Goals as goal
 

@@ -1,5 +1,4 @@
-use Rattle.std.proofs.Common.{true, take}
-use Rattle.eco_index.specs.IdIndex.{HasTurned, Turns, any_matches, lists_of}
+use Rattle.eco_index.proofs.Common.{true, take, HasTurned, Turns, any_matches, lists_of}
 use Rattle.eco_index.proofs.id_index.IdIndex.add_each.Given as goal
 
 abbrev pub invariant-loop-id : goal.invariant-loop-id

@@ -1,7 +1,4 @@
-use Rattle.std.proofs.Common.{true}
-use Rattle.eco_index.specs.IdIndex.{has_one, keys_of, lists_of, matches_id}
-use Rattle.eco_ids.specs.declared.id.Id.TheVariants.{One}
-use Rattle.eco_ids.proofs.Results.{on_err, on_ok}
+use Rattle.eco_index.proofs.Common.{true, has_one, keys_of, lists_of, matches_id, One, on_err, on_ok}
 use Rattle.eco_index.proofs.Keys.{key_matches, keeps_as, own_keeps, own_turns, turns_as}
 use Rattle.eco_index.proofs.id_index.IdIndex.add_id.Goals as goal
 

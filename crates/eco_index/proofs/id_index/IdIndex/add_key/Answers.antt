@@ -1,8 +1,5 @@
-use Rattle.std.proofs.Common.{◌≡◌, ◌+◌, ℕ, true, false, Bool, cond, nat_eq, nat_lt, arith, Some, refl, sym, ap, ◌∙◌, ◌||◌}
-use Rattle.std.proofs.lemmas.Bool.{lt-ltb}
-use Rattle.std.proofs.lemmas.Bool.Decides.{Decides-eqb}
-use Rattle.eco_index.specs.IdIndex.{has_slot}
-use Rattle.eco_index.specs.Marks.{may_be_kept}
+use Rattle.eco_index.proofs.Common.{◌≡◌, ◌+◌, ℕ, true, false, Bool, cond, nat_eq, nat_lt, arith, Some, refl, sym, ap, ◌∙◌, ◌||◌, lt-ltb}
+use Rattle.eco_index.proofs.Common.{Decides-eqb, has_slot, may_be_kept}
 use Rattle.eco_index.specs.declared.id_index.slots.Slots.TheVariants.{One}
 use Rattle.eco_index.proofs.Keys.{more_marks, turned}
 use Rattle.eco_index.proofs.Places.{full_with, marked_with}

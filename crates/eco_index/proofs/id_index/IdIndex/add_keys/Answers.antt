@@ -1,7 +1,4 @@
-use Rattle.std.proofs.Common.{true, arith}
-use Rattle.eco_index.specs.declared.id_index.key.Key.TheVariants.{AnyPair}
-use Rattle.eco_index.specs.IdIndex.{has_key, lists_of}
-use Rattle.eco_ids.proofs.Results.{err_says}
+use Rattle.eco_index.proofs.Common.{true, arith, AnyPair, has_key, lists_of, err_says}
 use Rattle.eco_index.proofs.Keys.{kept_rest, turned_more}
 use Rattle.eco_index.proofs.id_index.IdIndex.add_keys.Goals as goal
 

@@ -1,5 +1,4 @@
-use Rattle.std.proofs.Common.{true, take}
-use Rattle.eco_index.specs.IdIndex.{Turns, has_one, lists_of}
+use Rattle.eco_index.proofs.Common.{true, take, Turns, has_one, lists_of}
 use Rattle.eco_index.proofs.id_index.IdIndex.add_keys.Given as goal
 
 abbrev pub invariant-loop-key : goal.invariant-loop-key

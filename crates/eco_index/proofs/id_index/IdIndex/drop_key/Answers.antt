@@ -1,6 +1,4 @@
-use Rattle.std.proofs.Common.{None, IfSome, subst}
-use Rattle.std.specs.HashMap.{Updates}
-use Rattle.eco_index.specs.IdIndex.{same_key}
+use Rattle.eco_index.proofs.Common.{None, IfSome, subst, Updates, same_key}
 use Rattle.eco_index.proofs.Places.{full_without, marked_without}
 use Rattle.eco_index.proofs.id_index.IdIndex.drop_key.Goals as goal
 

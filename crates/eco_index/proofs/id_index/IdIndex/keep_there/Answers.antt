@@ -1,5 +1,4 @@
-use Rattle.std.proofs.Common.{rules}
-use Rattle.eco_index.specs.IdIndex.{key_of}
+use Rattle.eco_index.proofs.Common.{rules, key_of}
 use Rattle.eco_index.proofs.Sweeping.{swept_absent, swept_filled, swept_listed}
 use Rattle.eco_index.proofs.id_index.IdIndex.keep_there.Goals as goal
 

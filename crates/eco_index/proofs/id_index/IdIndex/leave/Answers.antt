@@ -1,6 +1,4 @@
-use Rattle.std.proofs.Common.{false}
-use Rattle.eco_index.specs.IdIndex.{has_own, is_own, keys_of, lists_of}
-use Rattle.eco_ids.specs.declared.id.Id.TheVariants.{One, Two}
+use Rattle.eco_index.proofs.Common.{false, has_own, is_own, keys_of, lists_of, One, Two}
 use Rattle.eco_index.proofs.Joinings.{own_id}
 use Rattle.eco_index.proofs.Keys.{turns_as}
 use Rattle.eco_index.proofs.id_index.IdIndex.leave.Goals as goal

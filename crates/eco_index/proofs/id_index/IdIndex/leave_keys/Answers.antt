@@ -1,5 +1,4 @@
-use Rattle.std.proofs.Common.{◌≡◌, false, true, ap, sym, ◌∙◌, arith}
-use Rattle.eco_index.specs.IdIndex.{any_matches, lists_of}
+use Rattle.eco_index.proofs.Common.{◌≡◌, false, true, ap, sym, ◌∙◌, arith, any_matches, lists_of}
 use Rattle.eco_index.proofs.Joinings.{kept_key, own_key, own_more}
 use Rattle.eco_index.proofs.Keys.{turns_as}
 use Rattle.eco_index.proofs.id_index.IdIndex.leave_keys.Goals.{then-not-is_matched, else-not-is_matched}

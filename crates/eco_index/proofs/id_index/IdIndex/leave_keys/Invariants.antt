@@ -1,5 +1,4 @@
-use Rattle.std.proofs.Common.{false, take}
-use Rattle.eco_index.specs.IdIndex.{Turns, has_own, lists_of}
+use Rattle.eco_index.proofs.Common.{false, take, Turns, has_own, lists_of}
 use Rattle.eco_index.proofs.id_index.IdIndex.leave_keys.Given as goal
 
 abbrev pub invariant-loop-key : goal.invariant-loop-key

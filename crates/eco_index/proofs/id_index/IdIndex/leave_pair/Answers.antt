@@ -1,6 +1,4 @@
-use Rattle.std.proofs.Common.{◌≡◌, [], ◌∷◌, false, sym, ◌∙◌}
-use Rattle.eco_index.specs.IdIndex.{any_matches, lists_of, pattern_of}
-use Rattle.eco_index.specs.declared.id_index.key.Key.TheVariants.{Pair, Target, Relationship, AnyPair}
+use Rattle.eco_index.proofs.Common.{◌≡◌, [], ◌∷◌, false, sym, ◌∙◌, any_matches, lists_of, pattern_of, Pair, Target, Relationship, AnyPair}
 use Rattle.eco_index.proofs.Joinings.{no_pair, own_both}
 use Rattle.eco_index.proofs.id_index.IdIndex.leave_pair.Goals as goal
 

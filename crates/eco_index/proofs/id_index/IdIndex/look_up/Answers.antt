@@ -1,4 +1,4 @@
-use Rattle.std.proofs.Common.{sym}
+use Rattle.eco_index.proofs.Common.{sym}
 use Rattle.eco_index.proofs.Places.{key_at}
 use Rattle.eco_index.proofs.id_index.IdIndex.look_up.Goals as goal
 

@@ -1,4 +1,4 @@
-use Rattle.std.proofs.Common.{◌<◌, length}
+use Rattle.eco_index.proofs.Common.{◌<◌, length}
 use Rattle.eco_index.proofs.id_index.IdIndex.shortest_group.Given as goal
 
 abbrev pub invariant-loop-group : goal.invariant-loop-group

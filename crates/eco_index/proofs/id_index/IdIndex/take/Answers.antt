@@ -1,6 +1,4 @@
-use Rattle.std.proofs.Common.{false, true≢false, is_some, slice_get, None, Some, sym, ap, ◌∙◌, cond, nat_eq}
-use Rattle.indexmap.specs.IndexMap.{with_value_at}
-use Rattle.eco_index.specs.IdIndex.{has_slot, is_empty}
+use Rattle.eco_index.proofs.Common.{false, true≢false, is_some, slice_get, None, Some, sym, ap, ◌∙◌, cond, nat_eq, with_value_at, has_slot, is_empty}
 use Rattle.eco_index.proofs.Keys.{none_empty, only_one, still_marked, turned}
 use Rattle.eco_index.proofs.Places.{goes_at, same_slots, written_at}
 use Rattle.eco_index.proofs.id_index.IdIndex.take.Goals as goal

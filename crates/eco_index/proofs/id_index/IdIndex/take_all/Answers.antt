@@ -1,5 +1,4 @@
-use Rattle.std.proofs.Common.{false, arith}
-use Rattle.eco_index.specs.IdIndex.{lists_of, matches_id}
+use Rattle.eco_index.proofs.Common.{false, arith, lists_of, matches_id}
 use Rattle.eco_index.proofs.Keys.{turned_last, turned_more}
 use Rattle.eco_index.proofs.id_index.IdIndex.take_all.Goals as goal
 

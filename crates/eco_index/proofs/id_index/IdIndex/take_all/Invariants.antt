@@ -1,5 +1,4 @@
-use Rattle.std.proofs.Common.{false, take}
-use Rattle.eco_index.specs.IdIndex.{HasTurned, Turns, any_matches, lists_of}
+use Rattle.eco_index.proofs.Common.{false, take, HasTurned, Turns, any_matches, lists_of}
 use Rattle.eco_index.proofs.id_index.IdIndex.take_all.Given as goal
 
 abbrev pub invariant-loop-id : goal.invariant-loop-id

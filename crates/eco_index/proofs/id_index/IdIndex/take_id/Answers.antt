@@ -1,8 +1,5 @@
-use Rattle.std.proofs.Common.{false, sym, ◌∙◌}
-use Rattle.eco_index.specs.IdIndex.{has_key, lists_of, matches_id}
-use Rattle.eco_ids.specs.declared.id.Id.TheVariants.{One}
+use Rattle.eco_index.proofs.Common.{false, sym, ◌∙◌, has_key, lists_of, matches_id, One, Single}
 use Rattle.eco_index.proofs.Keys.{key_matches, or_false, own_turns, turns_as}
-use Rattle.eco_index.specs.declared.id_index.key.Key.TheVariants.{Single}
 use Rattle.eco_index.proofs.id_index.IdIndex.take_id.Goals as goal
 
 pub returns-in-One : goal.returns-in-One

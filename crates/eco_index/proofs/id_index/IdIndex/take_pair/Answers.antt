@@ -1,7 +1,5 @@
-use Rattle.std.proofs.Common.{◌≡◌, ℕ, false, [], ◌∷◌, sym, arith}
-use Rattle.eco_index.specs.IdIndex.{Lists, Turns, has_key, has_one, lists_of}
-use Rattle.eco_index.specs.declared.id_index.key.Key.{Key}
-use Rattle.eco_index.specs.declared.id_index.key.Key.TheVariants.{Pair, Target, Relationship, AnyPair}
+use Rattle.eco_index.proofs.Common.{◌≡◌, ℕ, false, [], ◌∷◌, sym, arith, Lists, Turns, has_key, has_one, lists_of, Key, Pair, Target, Relationship}
+use Rattle.eco_index.proofs.Common.{AnyPair}
 use Rattle.eco_index.proofs.Joinings.{turns_both}
 use Rattle.eco_index.proofs.Keys.{or_false, turns_as}
 use Rattle.eco_index.proofs.id_index.IdIndex.take_pair.Goals as goal

@@ -1,6 +1,4 @@
-use Rattle.std.proofs.Common.{ap, ◌∙◌, length, nat_eq}
-use Rattle.std.specs.List.{list_any}
-use Rattle.eco_index.specs.IdIndex.{has_slot, is_empty, key_of}
+use Rattle.eco_index.proofs.Common.{ap, ◌∙◌, length, nat_eq, list_any, has_slot, is_empty, key_of}
 use Rattle.eco_index.proofs.IndexCopies.{cloned}
 use Rattle.eco_index.proofs.id_index.IdIndex.try_copy.Goals as goal
 

@@ -1,9 +1,5 @@
-use Rattle.std.proofs.Common.{◌≡◌, None, length, take, sym, ap, ◌∙◌, arith, nat_lt, option_map, subst}
-use Rattle.std.specs.Map.{lookup}
-use Rattle.std.specs.Map.Iter.{deref_pair}
-use Rattle.std.proofs.lemmas.Bool.{lt-ltb}
+use Rattle.eco_index.proofs.Common.{◌≡◌, None, length, take, sym, ap, ◌∙◌, arith, nat_lt, option_map, subst, lookup, deref_pair, lt-ltb, same_key}
 use Rattle.std.proofs.Math.Seq.{take-length}
-use Rattle.eco_index.specs.IdIndex.{same_key}
 use Rattle.eco_index.proofs.IndexCopies.{marked_more}
 use Rattle.eco_index.proofs.id_index.copying.marks_of.Goals as goal
 

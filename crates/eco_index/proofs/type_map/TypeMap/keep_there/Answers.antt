@@ -1,7 +1,4 @@
-use Rattle.std.proofs.Common.{rules}
-use Rattle.std.proofs.lemmas.Map.Made.{filter_same_pairs}
-use Rattle.eco_ids.proofs.SameIds.{same_ids-Decides}
-use Rattle.eco_index.specs.TypeMap.{same_ids}
+use Rattle.eco_index.proofs.Common.{rules, filter_same_pairs, same_ids-Decides, same_ids}
 use Rattle.eco_index.proofs.Sweeping.{kept_values}
 use Rattle.eco_index.proofs.type_map.TypeMap.keep_there.Goals as goal
 

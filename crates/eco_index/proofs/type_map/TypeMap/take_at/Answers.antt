@@ -1,6 +1,4 @@
-use Rattle.std.proofs.Common.{None, sym, subst, IfSome}
-use Rattle.std.specs.HashMap.{Updates}
-use Rattle.eco_index.specs.TypeMap.{same_ids}
+use Rattle.eco_index.proofs.Common.{None, sym, subst, IfSome, Updates, same_ids}
 use Rattle.eco_index.proofs.type_map.TypeMap.take_at.Goals as goal
 
 pub returns-in-Some-clause-taken : goal.returns-in-Some-clause-taken

@@ -1,7 +1,4 @@
-use Rattle.std.proofs.Common.{◌≡◌, None, Some, IfSome, ap, sym, subst, ◌∙◌, arith}
-use Rattle.std.specs.HashMap.{Updates, get}
-use Rattle.eco_ids.specs.Order.{id_cmp, without_item}
-use Rattle.eco_index.specs.TypeMap.{same_ids}
+use Rattle.eco_index.proofs.Common.{◌≡◌, None, Some, IfSome, ap, sym, subst, ◌∙◌, arith, Updates, get, id_cmp, without_item, same_ids}
 use Rattle.eco_index.proofs.Toggles.{lost_again}
 use Rattle.eco_index.proofs.TypeMaps.{grown_absent, grown_there, led_at, put_back}
 use Rattle.eco_index.proofs.type_map.TypeMap.take_with.Goals as goal

@@ -1,4 +1,4 @@
-use Rattle.std.proofs.Common.{◌∷◌}
+use Rattle.eco_index.proofs.Common.{◌∷◌}
 use Rattle.eco_index.proofs.TypeTests.{each_needed}
 use Rattle.eco_index.proofs.type_test.AllOfTypeTest.group_count.Goals as goal
 

@@ -1,4 +1,4 @@
-use Rattle.std.proofs.Common.{◌∷◌, length, ap, sym}
+use Rattle.eco_index.proofs.Common.{◌∷◌, length, ap, sym}
 use Rattle.eco_index.proofs.TypeTests.{alone_at}
 use Rattle.eco_index.proofs.type_test.AllOfTypeTest.pattern_count.Goals as goal
 

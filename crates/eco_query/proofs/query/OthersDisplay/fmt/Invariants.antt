@@ -1,6 +1,4 @@
-use Rattle.eco_ids.proofs.Common.{◌++◌, take, codes, flat_map, HasWritten, IsPlainFormatter}
-use Rattle.eco_query.specs.Canonical.{slot_text}
-use Rattle.eco_query.specs.Queries.{slot_view}
+use Rattle.eco_query.proofs.Common.{◌++◌, take, codes, flat_map, HasWritten, IsPlainFormatter, slot_text, slot_view}
 use Rattle.eco_query.proofs.query.OthersDisplay.fmt.Given as goal
 
 -- the slots so far, each behind its comma

@@ -1,4 +1,4 @@
-use Rattle.eco_ids.proofs.Common.{◌++◌, take, codes, flat_map, HasWritten, IsPlainFormatter}
+use Rattle.eco_query.proofs.Common.{◌++◌, take, codes, flat_map, HasWritten, IsPlainFormatter}
 use Rattle.eco_ids.specs.Text.{id_text}
 use Rattle.eco_query.proofs.term.OthersDisplay.fmt.Given as goal
 

@@ -1,7 +1,4 @@
-use Rattle.std.proofs.Common.{◌≡◌, ◌∙◌, sym, ap, subst, Some, None}
-use Rattle.std.specs.Arc.{arc_value}
-use Rattle.eco_shared.specs.Repeating.{Leads}
-use Rattle.eco_shared.specs.Sharing.{shown_world}
+use Rattle.eco_shared.proofs.Common.{◌≡◌, ◌∙◌, sym, ap, subst, Some, None, arc_value, Leads, shown_world}
 use Rattle.eco_shared.proofs.Repeats.{comes_to, is_shown}
 use Rattle.eco_shared.proofs.merger.Merger.ready.Goals as goal
 

@@ -1,10 +1,5 @@
-use Rattle.std.proofs.Common.{◌≡◌, ◌∙◌, Some, ap, refl, rules, subst, sym}
-use Rattle.std.specs.Arc.{arc_value}
+use Rattle.eco_shared.proofs.Common.{◌≡◌, ◌∙◌, Some, ap, refl, rules, subst, sym, arc_value, IsMerged, merge_of, Shown, GoesOn, shown_world}
 use Rattle.eco_histories.specs.Rules.{book_head}
-use Rattle.eco_shared.specs.Histories.{IsMerged}
-use Rattle.eco_shared.specs.Repeating.{merge_of}
-use Rattle.eco_shared.specs.declared.shown.Shown.{Shown}
-use Rattle.eco_shared.specs.Sharing.{GoesOn, shown_world}
 use Rattle.eco_shared.proofs.Repeats.{last_keeps}
 use Rattle.eco_shared.proofs.merger.Merger.show.Goals as goal
 

@@ -1,5 +1,4 @@
-use Rattle.std.proofs.Common.{◌≡◌, length}
-use Rattle.eco_stages.specs.Outcomes.{alike_in_memory}
+use Rattle.eco_stages.proofs.Common.{◌≡◌, length, alike_in_memory}
 use Rattle.eco_stages.proofs.iter.Iter.is_alike.Given as goal
 
 abbrev pub invariant-loop-outcome : goal.invariant-loop-outcome

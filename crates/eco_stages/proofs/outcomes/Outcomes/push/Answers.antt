@@ -1,6 +1,4 @@
-use Rattle.std.proofs.Common.{◌<◌, length, vec_capacity, subst, sym}
-use native.Mathlib.Omega.{arith}
-use Rattle.eco_stages.specs.Outcomes.{outcomes_of, Written}
+use Rattle.eco_stages.proofs.Common.{◌<◌, length, vec_capacity, subst, sym, arith, outcomes_of, Written}
 use Rattle.eco_stages.proofs.Counted.{counts}
 use Rattle.eco_stages.proofs.outcomes.Outcomes.push.Goals as goal
 

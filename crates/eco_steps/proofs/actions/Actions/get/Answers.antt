@@ -1,7 +1,4 @@
-use Rattle.std.proofs.Common.{map, None, Some, option_map, ap, ◌∙◌}
-use Rattle.serde_json.specs.View.{view}
-use Rattle.eco_steps.specs.Decode.{action_in}
-use Rattle.eco_steps.specs.Views.{action_view}
+use Rattle.eco_steps.proofs.Common.{map, None, Some, option_map, ap, ◌∙◌, view, action_in, action_view}
 use Rattle.eco_steps.proofs.Values.{kept_get}
 use Rattle.eco_steps.proofs.actions.Actions.get.Goals as goal
 

@@ -1,7 +1,4 @@
-use Rattle.std.proofs.Common.{map, sym, ◌∙◌}
-use Rattle.std.proofs.lemmas.List.{length-map}
-use Rattle.serde_json.specs.View.{view}
-use Rattle.eco_steps.specs.Decode.{action_in}
+use Rattle.eco_steps.proofs.Common.{map, sym, ◌∙◌, length-map, view, action_in}
 use Rattle.eco_steps.proofs.Values.{kept_length}
 use Rattle.eco_steps.proofs.actions.Actions.len.Goals as goal
 

@@ -1,5 +1,4 @@
-use Rattle.serde_json.specs.View.{view}
-use Rattle.eco_steps.specs.Decode.{action_in}
+use Rattle.eco_steps.proofs.Common.{view, action_in}
 use Rattle.eco_steps.proofs.Values.{all_kept, read_all, read_none}
 use Rattle.eco_steps.proofs.actions.Actions.read.Goals as goal
 

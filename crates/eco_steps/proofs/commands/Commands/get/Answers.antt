@@ -1,7 +1,4 @@
-use Rattle.std.proofs.Common.{map, None, Some, option_map, ap, ◌∙◌}
-use Rattle.serde_json.specs.View.{view}
-use Rattle.eco_steps.specs.Decode.{command_in}
-use Rattle.eco_steps.specs.Views.{command_view}
+use Rattle.eco_steps.proofs.Common.{map, None, Some, option_map, ap, ◌∙◌, view, command_in, command_view}
 use Rattle.eco_steps.proofs.Values.{kept_get}
 use Rattle.eco_steps.proofs.commands.Commands.get.Goals as goal
 

@@ -1,5 +1,4 @@
-use Rattle.serde_json.specs.View.{view}
-use Rattle.eco_steps.specs.Decode.{command_in}
+use Rattle.eco_steps.proofs.Common.{view, command_in}
 use Rattle.eco_steps.proofs.Values.{all_kept, read_all, read_none}
 use Rattle.eco_steps.proofs.commands.Commands.read.Goals as goal
 

@@ -1,6 +1,4 @@
-use Rattle.std.proofs.Common.{map}
-use Rattle.serde_json.specs.View.{view}
-use Rattle.eco_steps.specs.Decode.{command_in}
+use Rattle.eco_steps.proofs.Common.{map, view, command_in}
 use Rattle.eco_steps.proofs.Values.{kept_found, some_found}
 use Rattle.eco_steps.proofs.commands.Commands.read_again.Goals as goal
 

@@ -1,7 +1,5 @@
-use Rattle.std.proofs.Common.{map, sym}
+use Rattle.eco_steps.proofs.Common.{map, sym, view, step_view}
 use Rattle.std.proofs.lemmas.Result.{err_from_is_err_and}
-use Rattle.serde_json.specs.View.{view}
-use Rattle.eco_steps.specs.Views.{step_view}
 use Rattle.eco_steps.proofs.Decodes.{script_is, steps_keep, no_steps}
 use Rattle.eco_steps.proofs.script.WrittenScript.read.Goals as goal
 

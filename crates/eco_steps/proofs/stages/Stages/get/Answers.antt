@@ -1,7 +1,4 @@
-use Rattle.std.proofs.Common.{map, None, Some, option_map, ap, ◌∙◌}
-use Rattle.serde_json.specs.View.{view}
-use Rattle.eco_steps.specs.Decode.{stage_in}
-use Rattle.eco_steps.specs.Views.{commands_view}
+use Rattle.eco_steps.proofs.Common.{map, None, Some, option_map, ap, ◌∙◌, view, stage_in, commands_view}
 use Rattle.eco_steps.proofs.Values.{kept_each, kept_get}
 use Rattle.eco_steps.proofs.stages.Stages.get.Goals as goal
 

@@ -1,7 +1,4 @@
-use Rattle.std.proofs.Common.{map, sym, ◌∙◌}
-use Rattle.std.proofs.lemmas.List.{length-map}
-use Rattle.serde_json.specs.View.{view}
-use Rattle.eco_steps.specs.Decode.{stage_in}
+use Rattle.eco_steps.proofs.Common.{map, sym, ◌∙◌, length-map, view, stage_in}
 use Rattle.eco_steps.proofs.Values.{kept_length}
 use Rattle.eco_steps.proofs.stages.Stages.len.Goals as goal
 

@@ -1,5 +1,4 @@
-use Rattle.serde_json.specs.View.{view}
-use Rattle.eco_steps.specs.Decode.{stage_in}
+use Rattle.eco_steps.proofs.Common.{view, stage_in}
 use Rattle.eco_steps.proofs.Values.{all_kept, read_all, read_none}
 use Rattle.eco_steps.proofs.stages.Stages.read.Goals as goal
 

@@ -1,11 +1,6 @@
-use Rattle.std.proofs.Common.{◌≡◌, ◌++◌, drop, length, unwrap_or, sym, ap, ◌∙◌}
-use Rattle.std.specs.Option.{option_copied}
-use Rattle.std.proofs.lemmas.List.{length-map}
+use Rattle.eco_store.proofs.Common.{◌≡◌, ◌++◌, drop, length, unwrap_or, sym, ap, ◌∙◌, option_copied, length-map, entity_eq-Decides, TableRow}
+use Rattle.eco_store.proofs.Common.{TableState, entities_of, no_table, table_in, rows_in}
 use Rattle.std.proofs.lemmas.Slice.Eq.{starts_is}
-use Rattle.eco_ids.proofs.SameIds.{entity_eq-Decides}
-use Rattle.eco_tables.specs.Table.{TableRow, TableState, entities_of}
-use Rattle.eco_tables.specs.Tables.{no_table, table_in}
-use Rattle.eco_store.specs.Layout.{rows_in}
 use Rattle.eco_store.proofs.deaths.whole_tables.is_begun_by.Goals as goal
 
 pub returns : goal.returns

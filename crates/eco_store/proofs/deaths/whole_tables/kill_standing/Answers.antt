@@ -1,11 +1,5 @@
-use Rattle.std.proofs.Common.{◌≡◌, ◌-◌, drop, get_or, sym, ap, subst, ◌∙◌, arith, unwrap_or, IsTrue}
-use Rattle.std.specs.Option.{option_copied}
-use Rattle.std.proofs.Math.Seq.{drop-length}
-use Rattle.eco_entities.specs.Runs.{Kill}
-use Rattle.eco_ids.specs.Indices.{is_alive, with_death}
-use Rattle.eco_tables.specs.Table.{TableState, entities_of}
-use Rattle.eco_tables.specs.Tables.{no_table, table_in}
-use Rattle.eco_store.specs.Deaths.{with_deaths}
+use Rattle.eco_store.proofs.Common.{◌≡◌, ◌-◌, drop, get_or, sym, ap, subst, ◌∙◌, arith, unwrap_or, IsTrue, option_copied, drop-length, Kill}
+use Rattle.eco_store.proofs.Common.{is_alive, with_death, TableState, entities_of, no_table, table_in, with_deaths}
 use Rattle.eco_store.proofs.Clearing.{next_lives, no_entity, one_more_died}
 use Rattle.eco_store.proofs.Needing.{called}
 use Rattle.eco_store.proofs.deaths.whole_tables.kill_standing.Goals as goal

@@ -1,7 +1,4 @@
-use Rattle.std.proofs.Common.{◌≡◌, ◌≤◌, drop, length}
-use Rattle.eco_archetypes.specs.Widths.{MeetsNeeds}
-use Rattle.eco_entities.specs.Needs.{need}
-use Rattle.eco_store.specs.Deaths.{with_deaths}
+use Rattle.eco_store.proofs.Common.{◌≡◌, ◌≤◌, drop, length, MeetsNeeds, need, with_deaths}
 use Rattle.eco_store.proofs.deaths.whole_tables.kill_standing.Given as goal
 
 abbrev pub invariant-loop-left : goal.invariant-loop-left

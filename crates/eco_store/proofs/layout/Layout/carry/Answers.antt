@@ -1,11 +1,4 @@
-use Rattle.std.proofs.Common.{length, refl, ap, ◌∙◌}
-use Rattle.eco_ids.specs.Indices.{changed}
-use Rattle.eco_entities.specs.declared.place.Place.{Place}
-use Rattle.eco_entities.specs.Registration.{placed}
-use Rattle.eco_archetypes.proofs.ArchetypeLemmas.{there_by_room, there_by_row}
-use Rattle.eco_store.specs.Layout.{rows_in}
-use Rattle.eco_store.specs.Staying.{all_staying}
-use Rattle.eco_store.specs.Store.{read}
+use Rattle.eco_store.proofs.Common.{length, refl, ap, ◌∙◌, changed, Place, placed, there_by_room, there_by_row, rows_in, all_staying, read}
 use Rattle.eco_store.proofs.Coming.{admits_row}
 use Rattle.eco_store.proofs.Laid.{seen_alike}
 use Rattle.eco_store.proofs.LaidRows.{row_moves}

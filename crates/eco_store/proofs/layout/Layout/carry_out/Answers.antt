@@ -1,6 +1,4 @@
-use Rattle.std.proofs.Common.{sym, subst, ◌∙◌}
-use Rattle.eco_store.specs.Retyping.{after_changes, IsOneWay}
-use Rattle.eco_store.specs.Transfers.{AreNamed}
+use Rattle.eco_store.proofs.Common.{sym, subst, ◌∙◌, after_changes, IsOneWay, AreNamed}
 use Rattle.eco_store.proofs.Thinning.{plan_thinned, room_thinned, same_changes}
 use Rattle.eco_store.proofs.layout.Layout.carry_out.Goals as goal
 

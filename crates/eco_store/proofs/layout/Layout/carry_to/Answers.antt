@@ -1,10 +1,4 @@
-use Rattle.std.proofs.Common.{ap, ◌∙◌, ◌≡◌, Some}
-use Rattle.std.proofs.lemmas.Result.{IfOk-at_ok}
-use Rattle.eco_ids.specs.Indices.{changed}
-use Rattle.eco_archetypes.specs.Archetypes.{type_at}
-use Rattle.eco_archetypes.proofs.ArchetypeLemmas.{typed_table}
-use Rattle.eco_store.specs.Layout.{seen}
-use Rattle.eco_store.specs.Store.{with_type}
+use Rattle.eco_store.proofs.Common.{ap, ◌∙◌, ◌≡◌, Some, IfOk-at_ok, changed, type_at, typed_table, seen, with_type}
 use Rattle.eco_store.proofs.layout.Layout.carry_to.Goals as goal
 
 pub returns-clause-ok : goal.returns-clause-ok

@@ -1,8 +1,5 @@
-use Rattle.std.proofs.Common.{◌≡◌, ◌+◌, ◌++◌, ◌∷◌, [], take, length, IsTrue, nat_eq, ap, refl, sym, ◌∙◌, subst, arith}
-use Rattle.std.specs.List.{All, list_any}
-use Rattle.std.proofs.lemmas.List.{take_all, take_more}
-use Rattle.std.proofs.lemmas.List.Elements.{All-nil, All-push}
-use Rattle.eco_store.specs.Moving.{AreTyped}
+use Rattle.eco_store.proofs.Common.{◌≡◌, ◌+◌, ◌++◌, ◌∷◌, [], take, length, IsTrue, nat_eq, ap, refl, sym, ◌∙◌, subst, arith, All}
+use Rattle.eco_store.proofs.Common.{list_any, take_all, take_more, All-nil, All-push, AreTyped}
 use Rattle.eco_store.proofs.Coming.{typed_kept, typed_more}
 use Rattle.eco_store.proofs.Laid.{plans_none, plans_then}
 use Rattle.eco_store.proofs.layout.Layout.find_tables.Goals as goal

@@ -1,7 +1,4 @@
-use Rattle.std.proofs.Common.{take, IsTrue, nat_eq}
-use Rattle.std.specs.List.{All, list_any}
-use Rattle.eco_store.specs.Layout.{Plans}
-use Rattle.eco_store.specs.Moving.{AreTyped}
+use Rattle.eco_store.proofs.Common.{take, IsTrue, nat_eq, All, list_any, Plans, AreTyped}
 use Rattle.eco_store.proofs.layout.Layout.find_tables.Given as goal
 
 abbrev pub invariant-loop-next : goal.invariant-loop-next

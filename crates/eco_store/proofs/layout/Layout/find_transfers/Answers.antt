@@ -1,9 +1,5 @@
-use Rattle.std.proofs.Common.{◌≡◌, ℕ, ◌+◌, ◌++◌, ◌∷◌, [], take, IsTrue, nat_eq, ap, sym, ◌∙◌, subst}
-use Rattle.std.specs.List.{list_any}
-use Rattle.std.proofs.lemmas.List.{take_all, take_more}
-use Rattle.std.proofs.lemmas.List.Elements.{All-nil, All-push}
-use Rattle.eco_store.specs.declared.transfer.Transfer.{Transfer}
-use Rattle.eco_store.specs.Transfers.{AreNamed, IsPlan}
+use Rattle.eco_store.proofs.Common.{◌≡◌, ℕ, ◌+◌, ◌++◌, ◌∷◌, [], take, IsTrue, nat_eq, ap, sym, ◌∙◌, subst, list_any, take_all}
+use Rattle.eco_store.proofs.Common.{take_more, All-nil, All-push, Transfer, AreNamed, IsPlan}
 use Rattle.eco_store.proofs.Laid.{plans_none, plans_then}
 use Rattle.eco_store.proofs.Pouring.{plan_kept, plan_more, plan_none}
 use Rattle.eco_store.proofs.layout.Layout.find_transfers.Goals as goal

@@ -1,6 +1,4 @@
-use Rattle.std.proofs.Common.{take}
-use Rattle.eco_store.specs.Layout.{Plans}
-use Rattle.eco_store.specs.Transfers.{AreNamed, IsPlan}
+use Rattle.eco_store.proofs.Common.{take, Plans, AreNamed, IsPlan}
 use Rattle.eco_store.proofs.layout.Layout.find_transfers.Given as goal
 
 abbrev pub invariant-loop-change : goal.invariant-loop-change

@@ -1,6 +1,4 @@
-use Rattle.std.proofs.Common.{◌++◌, sym, subst, ◌∙◌}
-use Rattle.std.proofs.lemmas.List.{append_assoc}
-use Rattle.eco_archetypes.specs.Archetypes.{RowlessIn, SameRows}
+use Rattle.eco_store.proofs.Common.{◌++◌, sym, subst, ◌∙◌, append_assoc, RowlessIn, SameRows}
 use Rattle.eco_store.proofs.Laid.{done_idle, laid_alike, only_idle_stay}
 use Rattle.eco_store.proofs.StoreChanges.{same_read}
 use Rattle.eco_store.proofs.layout.Layout.forget.Goals as goal

@@ -1,10 +1,5 @@
-use Rattle.std.proofs.Common.{◌≡◌, unwrap_or, IsTrue, Some, refl, sym, ap, subst, ◌∙◌}
-use Rattle.std.specs.Option.{option_copied}
-use Rattle.eco_ids.specs.Order.{id_cmp, is_ascending}
-use Rattle.eco_tables.specs.Tables.{slot_of, table_in, no_table, AllHaveIds}
-use Rattle.eco_store.specs.Layout.{seen}
-use Rattle.eco_store.specs.Staying.{all_staying}
-use Rattle.eco_store.specs.Store.{read, with_type}
+use Rattle.eco_store.proofs.Common.{◌≡◌, unwrap_or, IsTrue, Some, refl, sym, ap, subst, ◌∙◌, option_copied, id_cmp, is_ascending, slot_of, table_in}
+use Rattle.eco_store.proofs.Common.{no_table, AllHaveIds, seen, all_staying, read, with_type}
 use Rattle.eco_store.proofs.Clearing.{unplaced_dead}
 use Rattle.eco_store.proofs.Coming.{changed_dead}
 use Rattle.eco_store.proofs.Laid.{carries_none, laid_alike}

@@ -1,18 +1,12 @@
-use Rattle.std.proofs.Common.{refl, ap, ◌∙◌, arith}
-use Rattle.eco_ids.specs.Indices.{with_death}
-use Rattle.eco_ids.proofs.Lists.{length-swap_remove}
-use Rattle.eco_entities.specs.Runs.{Kill}
-use Rattle.eco_tables.specs.Tables.{no_row, table_in, without_row}
-use Rattle.eco_store.specs.Layout.{rows_in}
-use Rattle.eco_store.specs.Staying.{StayingState, all_staying}
-use Rattle.eco_store.specs.Store.{read}
+use Rattle.eco_store.proofs.Common.{refl, ap, ◌∙◌, arith, with_death, length-swap_remove, Kill, no_row, table_in, without_row, rows_in, StayingState}
+use Rattle.eco_store.proofs.Common.{all_staying, read}
 use Rattle.eco_store.proofs.Laid.{seen_alike}
 use Rattle.eco_store.proofs.LaidRows.{row_takes}
 use Rattle.eco_store.proofs.Needing.{called, fixed_covers}
 use Rattle.eco_store.proofs.RowCounts.{own_fits}
 use Rattle.eco_store.proofs.Rowless.{rowless_emptied}
-use Rattle.eco_store.proofs.StoreChanges as changes
 use Rattle.eco_store.proofs.Thinning.{thins_without}
+use Rattle.eco_store.proofs.StoreChanges as changes
 use Rattle.eco_store.proofs.layout.Layout.kill.Goals as goal
 
 pub fix_place-requires-clause-living : goal.fix_place-requires-clause-living

@@ -1,9 +1,5 @@
-use Rattle.std.proofs.Common.{◌≡◌, ◌-◌, length, take, drop, refl, sym, ap, subst, ◌∙◌, arith}
-use Rattle.std.proofs.lemmas.List.{length-drop, take_all}
-use Rattle.eco_ids.specs.Order.{entity_cmp, has_item}
-use Rattle.eco_store.specs.Deaths.{after_deaths}
-use Rattle.eco_store.specs.Layout.{seen}
-use Rattle.eco_store.specs.Transfers.{Thins}
+use Rattle.eco_store.proofs.Common.{◌≡◌, ◌-◌, length, take, drop, refl, sym, ap, subst, ◌∙◌, arith, length-drop, take_all, entity_cmp, has_item}
+use Rattle.eco_store.proofs.Common.{after_deaths, seen, Thins}
 use Rattle.eco_store.proofs.Dying.{more_die, nobody_dies}
 use Rattle.eco_store.proofs.Thinning.{thins_same, thins_both}
 use Rattle.eco_store.proofs.layout.Layout.kill_all.Goals as goal

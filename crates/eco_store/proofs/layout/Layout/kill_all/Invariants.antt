@@ -1,7 +1,4 @@
-use Rattle.std.proofs.Common.{◌≡◌, ◌-◌, length, take}
-use Rattle.eco_ids.specs.Order.{entity_cmp, has_item}
-use Rattle.eco_store.specs.Deaths.{after_deaths}
-use Rattle.eco_store.specs.Layout.{seen, LosesRows}
+use Rattle.eco_store.proofs.Common.{◌≡◌, ◌-◌, length, take, entity_cmp, has_item, after_deaths, seen, LosesRows}
 use Rattle.eco_store.proofs.layout.Layout.kill_all.Given as goal
 
 abbrev pub invariant-loop-done : goal.invariant-loop-done

@@ -1,11 +1,5 @@
-use Rattle.std.proofs.Common.{◌≡◌, length, take, get_or, is_some, IsSome, refl, sym, ap, subst, ◌∙◌, arith}
-use Rattle.eco_ids.specs.Order.{entity_cmp, has_item}
-use Rattle.eco_tables.specs.Table.{entities_of}
-use Rattle.eco_tables.specs.Tables.{slot_of}
-use Rattle.eco_archetypes.proofs.ArchetypeLemmas.{there_by_row}
-use Rattle.eco_store.specs.Deaths.{after_deaths}
-use Rattle.eco_store.specs.Layout.{rows_in}
-use Rattle.eco_store.specs.Store.{read}
+use Rattle.eco_store.proofs.Common.{◌≡◌, length, take, get_or, is_some, IsSome, refl, sym, ap, subst, ◌∙◌, arith, entity_cmp, has_item, entities_of}
+use Rattle.eco_store.proofs.Common.{slot_of, there_by_row, after_deaths, rows_in, read}
 use Rattle.eco_store.proofs.Clearing.{begun_rows, no_entity, unplaced_dead}
 use Rattle.eco_store.proofs.Dying.{first_dies, first_passes}
 use Rattle.eco_store.proofs.StoreChanges.{placed_record, row_within}

@@ -1,13 +1,5 @@
-use Rattle.std.proofs.Common.{refl, sym, ap, subst, ◌∙◌, ◌∷◌, arith}
-use Rattle.eco_archetypes.specs.Archetypes.{RowlessIn}
-use Rattle.eco_archetypes.specs.Widths.{MeetsNeeds}
-use Rattle.eco_entities.specs.Needs.{need}
-use Rattle.eco_store.specs.Deaths.{with_deaths}
-use Rattle.eco_store.specs.Layout.{rows_in}
-use Rattle.eco_store.specs.Staying.{all_staying, StayingState, SameIn}
-use Rattle.eco_store.specs.Store.{IsStore, read}
-use Rattle.eco_tables.specs.Table.{entities_of}
-use Rattle.eco_tables.specs.Tables.{cleared, table_in}
+use Rattle.eco_store.proofs.Common.{refl, sym, ap, subst, ◌∙◌, ◌∷◌, arith, RowlessIn, MeetsNeeds, need, with_deaths, rows_in, all_staying}
+use Rattle.eco_store.proofs.Common.{StayingState, SameIn, IsStore, read, entities_of, cleared, table_in}
 use Rattle.eco_store.proofs.Clearing.{cleared_store, cleared_read}
 use Rattle.eco_store.proofs.Laid.{seen_alike}
 use Rattle.eco_store.proofs.LaidRows.{sets_rows}

@@ -1,5 +1,4 @@
-use Rattle.std.proofs.Common.{refl, sym, ◌∙◌}
-use Rattle.eco_store.specs.Staying.{all_staying}
+use Rattle.eco_store.proofs.Common.{refl, sym, ◌∙◌, all_staying}
 use Rattle.eco_store.proofs.Laid.{laid_alike}
 use Rattle.eco_store.proofs.Targets.{same_targets}
 use Rattle.eco_store.proofs.layout.Layout.leave.Goals as goal

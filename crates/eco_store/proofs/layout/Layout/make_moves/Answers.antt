@@ -1,18 +1,6 @@
-use Rattle.std.proofs.Common.{◌≡◌, ℕ, ◌+◌, ◌<◌, List, ◌∷◌, ◌++◌, [], Some, IsTrue, nat_eq}
-use Rattle.std.proofs.Common.{take, drop, get_or, length, refl, sym, ap, ◌∙◌, subst, arith, add-one}
-use Rattle.std.specs.List.{All, list_any}
-use Rattle.std.proofs.Math.Seq.{drop-cons}
-use Rattle.std.proofs.lemmas.List.{take_all, take_more}
-use Rattle.std.proofs.lemmas.List.Elements.{All-drop}
-use Rattle.std.proofs.lemmas.List.Sums.{fold-append}
-use Rattle.eco_tables.specs.Tables.{table_in}
-use Rattle.eco_archetypes.specs.Archetypes.{type_at}
-use Rattle.eco_archetypes.proofs.ArchetypeLemmas.{there_as_typed, typed_table}
-use Rattle.eco_ids.specs.Indices.{changed}
-use Rattle.eco_store.specs.declared.moving.Move.{Move}
-use Rattle.eco_store.specs.Moving.{after_move, after_moves, HasRoomFor}
-use Rattle.eco_store.specs.Staying.{StayingState}
-use Rattle.eco_store.specs.Store.{read, with_type}
+use Rattle.eco_store.proofs.Common.{◌≡◌, ℕ, ◌+◌, ◌<◌, List, ◌∷◌, ◌++◌, [], Some, IsTrue, nat_eq, take, drop, get_or, length, refl}
+use Rattle.eco_store.proofs.Common.{sym, ap, ◌∙◌, subst, arith, add-one, All, list_any, drop-cons, take_all, take_more, All-drop, fold-append, table_in}
+use Rattle.eco_store.proofs.Common.{type_at, there_as_typed, typed_table, changed, Move, after_move, after_moves, HasRoomFor, StayingState, read, with_type}
 use Rattle.eco_store.proofs.Coming.{as_many, first_place, rest_places, typed_alike, typed_at}
 use Rattle.eco_store.proofs.layout.Layout.make_moves.Goals as goal
 

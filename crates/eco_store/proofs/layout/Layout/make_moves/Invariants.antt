@@ -1,7 +1,4 @@
-use Rattle.std.proofs.Common.{◌≡◌, take, drop, IsTrue, nat_eq}
-use Rattle.std.specs.List.{All, list_any}
-use Rattle.eco_store.specs.Layout.{seen, IsLaid}
-use Rattle.eco_store.specs.Moving.{after_moves, AreTyped, HasRoomFor}
+use Rattle.eco_store.proofs.Common.{◌≡◌, take, drop, IsTrue, nat_eq, All, list_any, seen, IsLaid, after_moves, AreTyped, HasRoomFor}
 use Rattle.eco_store.proofs.layout.Layout.make_moves.Given as goal
 
 abbrev pub invariant-loop-place : goal.invariant-loop-place

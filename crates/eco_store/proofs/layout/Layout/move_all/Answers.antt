@@ -1,13 +1,6 @@
-use Rattle.std.proofs.Common.{◌≡◌, ◌≢◌, ℕ, ◌+◌, ◌<◌, List, ◌∷◌, [], map, take, drop, get_or, length, sym, ap, ◌∙◌, subst, add-one}
-use Rattle.std.proofs.Math.Seq.{drop-cons}
-use Rattle.std.proofs.lemmas.List.{take_more, map-append}
-use Rattle.std.proofs.lemmas.List.Elements.{All-drop}
-use Rattle.std.proofs.lemmas.List.Sums.{fold-append}
-use Rattle.eco_store.specs.declared.transfer.Transfer.{Transfer}
-use Rattle.eco_store.specs.Retyping.{after_change, after_changes}
-use Rattle.eco_store.specs.Store.{read}
-use Rattle.eco_store.specs.Staying.{StayingState}
-use Rattle.eco_store.specs.Transfers.{change_of, HasRoom, IsNamed}
+use Rattle.eco_store.proofs.Common.{◌≡◌, ◌≢◌, ℕ, ◌+◌, ◌<◌, List, ◌∷◌, [], map, take, drop, get_or, length, sym, ap, ◌∙◌}
+use Rattle.eco_store.proofs.Common.{subst, add-one, drop-cons, take_more, map-append, All-drop, fold-append, Transfer, after_change, after_changes, read}
+use Rattle.eco_store.proofs.Common.{StayingState, change_of, HasRoom, IsNamed}
 use Rattle.eco_store.proofs.Pouring.{apart_slots, change_kept, still_there, room_first, room_rest}
 use Rattle.eco_store.proofs.layout.Layout.move_all.Goals as goal
 

@@ -1,8 +1,4 @@
-use Rattle.std.proofs.Common.{◌≡◌, take, drop, map}
-use Rattle.eco_archetypes.specs.Archetypes.{SameTypes}
-use Rattle.eco_store.specs.Layout.{seen, IsLaid}
-use Rattle.eco_store.specs.Retyping.{after_changes}
-use Rattle.eco_store.specs.Transfers.{change_of, HasRoom}
+use Rattle.eco_store.proofs.Common.{◌≡◌, take, drop, map, SameTypes, seen, IsLaid, after_changes, change_of, HasRoom}
 use Rattle.eco_store.proofs.layout.Layout.move_all.Given as goal
 
 abbrev pub invariant-loop-transfer : goal.invariant-loop-transfer

@@ -1,8 +1,4 @@
-use Rattle.std.proofs.Common.{refl, sym, ap, ◌∙◌, subst, length}
-use Rattle.eco_tables.specs.Tables.{table_in, AllHaveIds}
-use Rattle.eco_store.specs.Staying.{all_staying}
-use Rattle.eco_store.specs.Store.{IsStore, read}
-use Rattle.eco_store.specs.Transfers.{with_places}
+use Rattle.eco_store.proofs.Common.{refl, sym, ap, ◌∙◌, subst, length, table_in, AllHaveIds, all_staying, IsStore, read, with_places}
 use Rattle.eco_store.proofs.Needing.{moved_covers}
 use Rattle.eco_store.proofs.Rowless.{named_stays, rowless_poured}
 use Rattle.eco_store.proofs.WholeMoves.{whole_store, whole_pours, whole_read}

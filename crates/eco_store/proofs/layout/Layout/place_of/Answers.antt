@@ -1,6 +1,4 @@
-use Rattle.std.proofs.Common.{sym, subst, ◌∙◌}
-use Rattle.eco_tables.specs.Tables.{AllHaveIds}
-use Rattle.eco_archetypes.proofs.ArchetypeLemmas.{there_by_row}
+use Rattle.eco_store.proofs.Common.{sym, subst, ◌∙◌, AllHaveIds, there_by_row}
 use Rattle.eco_store.proofs.Stepping.{standing_type}
 use Rattle.eco_store.proofs.StoreChanges.{row_within}
 use Rattle.eco_store.proofs.layout.Layout.place_of.Goals as goal

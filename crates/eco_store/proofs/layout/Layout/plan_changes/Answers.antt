@@ -1,4 +1,4 @@
-use Rattle.std.proofs.Common.{◌∙◌}
+use Rattle.eco_store.proofs.Common.{◌∙◌}
 use Rattle.eco_store.proofs.Laid.{plans_then}
 use Rattle.eco_store.proofs.Pouring.{plan_kept}
 use Rattle.eco_store.proofs.layout.Layout.plan_changes.Goals as goal

@@ -1,4 +1,4 @@
-use Rattle.std.proofs.Common.{◌∙◌}
+use Rattle.eco_store.proofs.Common.{◌∙◌}
 use Rattle.eco_store.proofs.Coming.{all_there, none_typed, typed_alike}
 use Rattle.eco_store.proofs.Laid.{plans_then}
 use Rattle.eco_store.proofs.layout.Layout.plan_moves.Goals as goal

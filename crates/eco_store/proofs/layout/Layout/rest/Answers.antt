@@ -1,8 +1,5 @@
-use Rattle.std.proofs.Common.{◌≡◌, ◌++◌, ℕ, List, Bool, true, false, nat_eq, slice_set, refl, sym, ap, subst, ◌∙◌}
-use Rattle.std.specs.List.{list_any}
-use Rattle.eco_archetypes.specs.Archetypes.{RowlessIn}
-use Rattle.eco_tables.specs.Tables.{slot_of, rowless_type}
-use Rattle.eco_store.specs.Staying.{StayingState, all_staying}
+use Rattle.eco_store.proofs.Common.{◌≡◌, ◌++◌, ℕ, List, Bool, true, false, nat_eq, slice_set, refl, sym, ap, subst, ◌∙◌, list_any, RowlessIn}
+use Rattle.eco_store.proofs.Common.{slot_of, rowless_type, StayingState, all_staying}
 use Rattle.eco_store.proofs.Laid.{laid_alike}
 use Rattle.eco_store.proofs.Targets.{same_targets}
 use Rattle.eco_store.proofs.Rowless.{among_last, among_more, rowless_rested, rowless_twice}

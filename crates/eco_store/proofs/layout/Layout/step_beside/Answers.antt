@@ -1,12 +1,5 @@
-use Rattle.std.proofs.Common.{◌≡◌, IsTrue, OnErr, OnOk, nat_eq, rules, sym, subst}
-use Rattle.std.specs.List.{list_any}
-use Rattle.std.proofs.lemmas.Result.{err_from_is_err_and}
-use Rattle.eco_archetypes.proofs.ArchetypeLemmas.{rows_from_slots}
-use Rattle.eco_ids.proofs.Results.{err_says, on_ok}
-use Rattle.eco_ids.specs.Indices.{is_alive}
-use Rattle.eco_store.specs.Layout.{seen}
-use Rattle.eco_store.specs.Staying.{StayingState}
-use Rattle.eco_store.specs.Store.{stepped}
+use Rattle.eco_store.proofs.Common.{◌≡◌, IsTrue, OnErr, OnOk, nat_eq, rules, sym, subst, list_any, err_from_is_err_and, rows_from_slots, err_says, on_ok}
+use Rattle.eco_store.proofs.Common.{is_alive, seen, StayingState, stepped}
 use Rattle.eco_store.proofs.Coupled.{leaves_from, not_turned, turn_leaves}
 use Rattle.eco_store.proofs.Laid.{seen_alike}
 use Rattle.eco_store.proofs.layout.Layout.step_beside.Goals as goal

@@ -1,8 +1,4 @@
-use Rattle.std.proofs.Common.{subst, sym, ◌≡◌, IsTrue, OnOk}
-use Rattle.eco_ids.specs.Order.{entity_eq}
-use Rattle.eco_ids.proofs.Facts.{not_both}
-use Rattle.eco_ids.proofs.Overlaps.{entity_eq_itself}
-use Rattle.eco_store.specs.Layout.{seen}
+use Rattle.eco_store.proofs.Common.{subst, sym, ◌≡◌, IsTrue, OnOk, entity_eq, not_both, entity_eq_itself, seen}
 use Rattle.eco_store.proofs.Coupled.{steps_other_way}
 use Rattle.eco_store.proofs.layout.Layout.step_both.Goals as goal
 

@@ -1,11 +1,4 @@
-use Rattle.std.proofs.Common.{◌∙◌, arith}
-use Rattle.std.proofs.lemmas.Result.{err_from_is_err_and}
-use Rattle.eco_index.specs.Edges.{toggled}
-use Rattle.eco_archetypes.proofs.ArchetypeLemmas.{there_as_typed, typed_table}
-use Rattle.eco_ids.proofs.Results.{err_says}
-use Rattle.eco_ids.specs.Indices.{changed}
-use Rattle.eco_store.specs.Layout.{seen}
-use Rattle.eco_store.specs.Store.{with_type}
+use Rattle.eco_store.proofs.Common.{◌∙◌, arith, err_from_is_err_and, toggled, there_as_typed, typed_table, err_says, changed, seen, with_type}
 use Rattle.eco_store.proofs.Coupled.{move_leaves}
 use Rattle.eco_store.proofs.Laid.{plans_seen}
 use Rattle.eco_store.proofs.Stepping.{leads_to}

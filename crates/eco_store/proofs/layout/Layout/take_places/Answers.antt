@@ -1,7 +1,4 @@
-use Rattle.std.proofs.Common.{take, length, get_or, refl, ap, ◌∙◌, subst, sym, arith}
-use Rattle.std.proofs.lemmas.List.{take_all, take_more}
-use Rattle.eco_store.specs.Moving.{HasRoomFor}
-use Rattle.eco_store.specs.Staying.{all_staying}
+use Rattle.eco_store.proofs.Common.{take, length, get_or, refl, ap, ◌∙◌, subst, sym, arith, take_all, take_more, HasRoomFor, all_staying}
 use Rattle.eco_store.proofs.Coming.{place_more, room_none}
 use Rattle.eco_store.proofs.Laid.{plans_none, plans_same, plans_then}
 use Rattle.eco_store.proofs.Pouring.{still_there}

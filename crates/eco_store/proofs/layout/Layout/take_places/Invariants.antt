@@ -1,7 +1,4 @@
-use Rattle.std.proofs.Common.{take}
-use Rattle.eco_archetypes.specs.Archetypes.{SameTypes}
-use Rattle.eco_store.specs.Layout.{Plans}
-use Rattle.eco_store.specs.Moving.{HasRoomFor}
+use Rattle.eco_store.proofs.Common.{take, SameTypes, Plans, HasRoomFor}
 use Rattle.eco_store.proofs.layout.Layout.take_places.Given as goal
 
 abbrev pub invariant-loop-slot : goal.invariant-loop-slot

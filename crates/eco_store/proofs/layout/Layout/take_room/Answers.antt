@@ -1,9 +1,5 @@
-use Rattle.std.proofs.Common.{◌≡◌, ◌+◌, ◌≤◌, take, length, get_or, refl, sym, ap, ◌∙◌, subst, arith}
-use Rattle.std.proofs.lemmas.List.{take_more}
-use Rattle.eco_tables.specs.Tables.{table_in}
-use Rattle.eco_store.specs.declared.transfer.Transfer.{Transfer}
-use Rattle.eco_store.specs.Staying.{all_staying}
-use Rattle.eco_store.specs.Transfers.{HasRoom}
+use Rattle.eco_store.proofs.Common.{◌≡◌, ◌+◌, ◌≤◌, take, length, get_or, refl, sym, ap, ◌∙◌, subst, arith, take_more, table_in, Transfer}
+use Rattle.eco_store.proofs.Common.{all_staying, HasRoom}
 use Rattle.eco_store.proofs.Laid.{plans_same, plans_then}
 use Rattle.eco_store.proofs.Pouring.{room_more}
 use Rattle.eco_store.proofs.layout.Layout.take_room.Goals as goal

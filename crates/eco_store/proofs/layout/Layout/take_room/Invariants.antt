@@ -1,7 +1,4 @@
-use Rattle.std.proofs.Common.{take}
-use Rattle.eco_archetypes.specs.Archetypes.{SameTypes}
-use Rattle.eco_store.specs.Layout.{Plans}
-use Rattle.eco_store.specs.Transfers.{HasRoom}
+use Rattle.eco_store.proofs.Common.{take, SameTypes, Plans, HasRoom}
 use Rattle.eco_store.proofs.layout.Layout.take_room.Given as goal
 
 abbrev pub invariant-loop-transfer : goal.invariant-loop-transfer

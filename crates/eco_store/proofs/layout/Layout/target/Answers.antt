@@ -1,6 +1,4 @@
-use Rattle.std.proofs.Common.{◌∙◌, ◌∷◌, refl}
-use Rattle.eco_store.specs.Staying.{all_staying}
-use Rattle.eco_archetypes.proofs.ArchetypeLemmas.{then_rows}
+use Rattle.eco_store.proofs.Common.{◌∙◌, ◌∷◌, refl, all_staying, then_rows}
 use Rattle.eco_store.proofs.Laid.{plans_same, plans_target}
 use Rattle.eco_store.proofs.Targets.{is_targeted}
 use Rattle.eco_store.proofs.Rowless.{rowless_same}

@@ -1,6 +1,4 @@
-use Rattle.std.proofs.Common.{refl, subst}
-use Rattle.eco_tables.specs.Tables.{AllHaveIds}
-use Rattle.eco_archetypes.proofs.ArchetypeLemmas.{there_by_row}
+use Rattle.eco_store.proofs.Common.{refl, subst, AllHaveIds, there_by_row}
 use Rattle.eco_store.proofs.Coupled.{may_turn}
 use Rattle.eco_store.proofs.StoreChanges.{row_within}
 use Rattle.eco_store.proofs.layout.Layout.turn.Goals as goal

@@ -1,4 +1,4 @@
-use Rattle.std.proofs.Common.{sym, ◌∙◌}
+use Rattle.eco_store.proofs.Common.{sym, ◌∙◌}
 use Rattle.eco_store.proofs.Placed.{if_none, stands_at, stands_nowhere, stands_only}
 use Rattle.eco_store.proofs.places.Places.slot_of.Goals as goal
 

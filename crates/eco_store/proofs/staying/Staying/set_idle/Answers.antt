@@ -1,5 +1,4 @@
-use Rattle.std.proofs.Common.{◌<◌, ◌%◌, length, refl, rules}
-use Rattle.std.proofs.lemmas.Option.{slice_get-get_or}
+use Rattle.eco_store.proofs.Common.{◌<◌, ◌%◌, length, refl, rules, slice_get-get_or}
 use Rattle.eco_store.proofs.staying.Staying.set_idle.Goals as goal
 
 pub returns : goal.returns

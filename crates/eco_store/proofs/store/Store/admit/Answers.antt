@@ -1,6 +1,5 @@
-use Rattle.std.proofs.Common.{nat_lt}
+use Rattle.eco_store.proofs.Common.{nat_lt, Admit}
 use Rattle.eco_store.proofs.BirthChanges.{admit_lifts}
-use Rattle.eco_entities.specs.Runs.{Admit}
 use Rattle.eco_store.proofs.Needing.{admits, called}
 use Rattle.eco_store.proofs.store.Store.admit.Goals as goal
 

@@ -1,11 +1,4 @@
-use Rattle.std.proofs.Common.{length, refl, sym, ap}
-use Rattle.std.specs.Option.{option_copied}
-use Rattle.eco_entities.specs.Registration.{given_name, newcomer}
-use Rattle.eco_entities.specs.Runs.{Create}
-use Rattle.eco_entities.specs.declared.place.Place.{Place}
-use Rattle.eco_store.specs.Layout.{rows_in}
-use Rattle.eco_store.specs.Staying.{all_staying}
-use Rattle.eco_store.specs.Store.{StoreState}
+use Rattle.eco_store.proofs.Common.{length, refl, sym, ap, option_copied, given_name, newcomer, Create, Place, rows_in, all_staying, StoreState}
 use Rattle.eco_store.proofs.BirthChanges.{created_alive, still_created, still_refused}
 use Rattle.eco_store.proofs.Laid.{found_laid, found_puts, seen_alike, sought_settled, still_settled}
 use Rattle.eco_store.proofs.LaidRows.{rows_alike}

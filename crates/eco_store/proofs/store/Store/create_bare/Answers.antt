@@ -1,9 +1,6 @@
-use Rattle.std.proofs.Common.{[], List, subst, ◌∙◌}
-use Rattle.std.specs.Option.{option_copied}
-use Rattle.eco_ids.specs.declared.id.Id.{Id}
-use Rattle.eco_store.specs.Store.{CreatesRecord, StoreState}
-use Rattle.eco_store.proofs.store.Store.create_bare.Goals as goal
+use Rattle.eco_store.proofs.Common.{[], List, subst, ◌∙◌, option_copied, Id, CreatesRecord, StoreState}
 use Rattle.eco_store.proofs.store.Store.create_bare.Goals.{then-is_none+in_default, else-is_none}
+use Rattle.eco_store.proofs.store.Store.create_bare.Goals as goal
 
 pub returns : goal.returns
 returns c =

@@ -1,10 +1,4 @@
-use Rattle.std.proofs.Common.{Ok, None, [], refl, ap, ◌∙◌}
-use Rattle.eco_ids.specs.Indices.{with_new}
-use Rattle.eco_entities.specs.Registration.{newcomer}
-use Rattle.eco_entities.specs.Runs.{Create}
-use Rattle.eco_entities.specs.declared.place.Place.{Place}
-use Rattle.eco_store.specs.Staying.{all_staying}
-use Rattle.eco_store.specs.Store.{StoreState}
+use Rattle.eco_store.proofs.Common.{Ok, None, [], refl, ap, ◌∙◌, with_new, newcomer, Create, Place, all_staying, StoreState}
 use Rattle.eco_store.proofs.RowCounts.{end_fits}
 use Rattle.eco_store.proofs.BirthChanges.{creates_unnamed, placed_new, still_created}
 use Rattle.eco_store.proofs.Laid.{found_laid, found_puts}

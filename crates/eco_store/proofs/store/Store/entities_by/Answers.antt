@@ -1,7 +1,5 @@
-use Rattle.std.proofs.Common.{sym, ◌∙◌}
-use Rattle.eco_tables.specs.Tables.{slot_of}
+use Rattle.eco_store.proofs.Common.{sym, ◌∙◌, slot_of, on_err}
 use Rattle.eco_store.proofs.Holders.{found_matches, some_listed, standing_apart, standing_whose, whose_ascend}
-use Rattle.eco_ids.proofs.Results.{on_err}
 use Rattle.eco_store.proofs.Sorting.{both_ok, sorted_is}
 use Rattle.eco_store.proofs.store.Store.entities_by.Goals as goal
 

@@ -1,7 +1,4 @@
-use Rattle.std.proofs.Common.{◌∙◌}
-use Rattle.eco_index.specs.Edges.{exchanged}
-use Rattle.eco_store.specs.Layout.{seen}
-use Rattle.eco_store.specs.Store.{with_exchanged}
+use Rattle.eco_store.proofs.Common.{◌∙◌, exchanged, seen, with_exchanged}
 use Rattle.eco_store.proofs.Laid.{sought_err, sought_laid, sought_ok, still_settled}
 use Rattle.eco_store.proofs.Stepping.{has_typed, leads_to}
 use Rattle.eco_store.proofs.store.Store.exchange.Goals as goal

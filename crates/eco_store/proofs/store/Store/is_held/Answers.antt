@@ -1,5 +1,4 @@
-use Rattle.std.specs.List.{list_any}
-use Rattle.eco_ids.specs.Matching.{pattern_matches}
+use Rattle.eco_store.proofs.Common.{list_any, pattern_matches}
 use Rattle.eco_store.proofs.Holders.{held_is}
 use Rattle.eco_store.proofs.Values.{shows}
 use Rattle.eco_store.proofs.store.Store.is_held.Goals as goal

@@ -1,4 +1,4 @@
-use Rattle.std.proofs.Common.{false, sym, ◌∙◌, true≢false}
+use Rattle.eco_store.proofs.Common.{false, sym, ◌∙◌, true≢false}
 use Rattle.eco_index.specs.TypeTests.{type_names}
 use Rattle.eco_archetypes.proofs.Named.{none_names}
 use Rattle.eco_store.proofs.Holders.{held_is}

@@ -1,7 +1,4 @@
-use Rattle.std.proofs.Common.{refl, sym, ◌∙◌}
-use Rattle.eco_entities.specs.Registration.{given_name}
-use Rattle.eco_archetypes.specs.Archetypes.{row_at}
-use Rattle.eco_store.specs.Store.{record_for, record_name}
+use Rattle.eco_store.proofs.Common.{refl, sym, ◌∙◌, given_name, row_at, record_for, record_name}
 use Rattle.eco_store.proofs.Newborn.{named_entity-map}
 use Rattle.eco_store.proofs.store.Store.lookup.Goals as goal
 

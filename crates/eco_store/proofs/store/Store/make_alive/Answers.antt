@@ -1,15 +1,10 @@
-use Rattle.std.proofs.Common.{Some, [], true, false, ◌≡◌, length, refl, ap, ◌∙◌, sym}
-use Rattle.eco_ids.specs.Indices.{is_free_at}
-use Rattle.eco_store.specs.Store.{read}
+use Rattle.eco_store.proofs.Common.{Some, [], true, false, ◌≡◌, length, refl, ap, ◌∙◌, sym, is_free_at, read, Place, rows_in, all_staying}
+use Rattle.eco_store.proofs.Common.{MakeAlive}
 use Rattle.eco_store.proofs.RowCounts.{end_fits}
-use Rattle.eco_store.proofs.BirthChanges as births
-use Rattle.eco_entities.specs.declared.place.Place.{Place}
-use Rattle.eco_store.specs.Layout.{rows_in}
-use Rattle.eco_store.specs.Staying.{all_staying}
 use Rattle.eco_store.proofs.Laid.{found_laid, found_puts, sought_settled}
 use Rattle.eco_store.proofs.LaidRows.{rows_alike}
-use Rattle.eco_entities.specs.Runs.{MakeAlive}
 use Rattle.eco_store.proofs.Needing.{called}
+use Rattle.eco_store.proofs.BirthChanges as births
 use Rattle.eco_store.proofs.store.Store.make_alive.Goals as goal
 
 -- the handle is taken

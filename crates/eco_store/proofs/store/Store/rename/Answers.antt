@@ -1,6 +1,5 @@
-use Rattle.std.specs.Option.{option_copied}
+use Rattle.eco_store.proofs.Common.{option_copied, Rename}
 use Rattle.eco_store.proofs.Values.{rename_lifts}
-use Rattle.eco_entities.specs.Runs.{Rename}
 use Rattle.eco_store.proofs.Needing.{called}
 use Rattle.eco_store.proofs.store.Store.rename.Goals as goal
 

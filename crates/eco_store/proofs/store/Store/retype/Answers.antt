@@ -1,16 +1,7 @@
-use Rattle.std.proofs.Common.{◌≡◌, false, true≢false, List, Option, Some, option_map, refl, sym, ap, ◌∙◌, unwrap_or}
-use Rattle.std.specs.Option.{option_copied}
-use Rattle.std.proofs.lemmas.Result.{IfOk-weaker}
-use Rattle.eco_ids.specs.declared.id.Id.{Id}
-use Rattle.eco_ids.proofs.SameIds.{same_ids-Decides}
-use Rattle.eco_tables.specs.Table.{TableState}
-use Rattle.eco_tables.specs.Tables.{slot_of, no_table}
-use Rattle.eco_index.specs.TypeMap.{same_ids}
-use Rattle.eco_archetypes.specs.Archetypes.{type_at}
-use Rattle.eco_store.specs.Layout.{seen}
+use Rattle.eco_store.proofs.Common.{◌≡◌, false, true≢false, List, Option, Some, option_map, refl, sym, ap, ◌∙◌, unwrap_or, option_copied}
+use Rattle.eco_store.proofs.Common.{IfOk-weaker, Id, same_ids-Decides, TableState, slot_of, no_table, same_ids, type_at, seen, with_type}
 use Rattle.eco_store.proofs.Laid.{sought_err, sought_laid, sought_ok, still_settled}
 use Rattle.eco_store.proofs.Stepping.{own_again}
-use Rattle.eco_store.specs.Store.{with_type}
 use Rattle.eco_store.proofs.SeatChanges.{one_some}
 use Rattle.eco_store.proofs.StoreChanges.{some_from_copied}
 use Rattle.eco_store.proofs.store.Store.retype.Goals as goal

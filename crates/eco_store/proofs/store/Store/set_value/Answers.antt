@@ -1,17 +1,9 @@
-use Rattle.std.proofs.Common.{List, is_some, length, unwrap_or, sym, ap, ◌∙◌}
-use Rattle.std.proofs.lemmas.List.{length-set}
-use Rattle.std.specs.FinMap.Entries.{find}
-use Rattle.eco_ids.specs.Order.{id_cmp}
-use Rattle.eco_tables.specs.Column.{with_held}
-use Rattle.eco_tables.specs.Tables.{no_table}
-use Rattle.eco_store.specs.Staying.{all_staying}
+use Rattle.eco_store.proofs.Common.{List, is_some, length, unwrap_or, sym, ap, ◌∙◌, length-set, find, id_cmp, with_held, no_table, all_staying, Id, Value}
 use Rattle.eco_store.proofs.LaidRows.{sets_rows}
 use Rattle.eco_store.proofs.Needing.{fits_in}
 use Rattle.eco_store.proofs.Rowless.{rowless_rewritten}
 use Rattle.eco_store.proofs.Values.{held_read, written_store, written_read}
 use Rattle.eco_store.proofs.store.Store.set_value.Goals as goal
-use Rattle.eco_ids.specs.declared.id.Id.{Id}
-use Rattle.eco_ids.specs.declared.value.Value.{Value}
 
 pub set_value-requires-clause-fits : goal.set_value-requires-clause-fits
 set_value-requires-clause-fits c =

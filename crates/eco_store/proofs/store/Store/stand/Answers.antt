@@ -1,7 +1,4 @@
-use Rattle.std.proofs.Common.{sym, ap, ◌∙◌}
-use Rattle.std.specs.Option.{option_copied}
-use Rattle.eco_tables.specs.Tables.{slot_of}
-use Rattle.eco_archetypes.proofs.ArchetypeLemmas.{there_by_row}
+use Rattle.eco_store.proofs.Common.{sym, ap, ◌∙◌, option_copied, slot_of, there_by_row}
 use Rattle.eco_store.proofs.Lent.{kept_there}
 use Rattle.eco_store.proofs.StoreChanges.{some_from_copied, row_within}
 use Rattle.eco_store.proofs.Values.{own_there, stands_there}

@@ -1,5 +1,4 @@
-use Rattle.eco_ids.proofs.Results.{err_says}
-use Rattle.eco_store.specs.Store.{read}
+use Rattle.eco_store.proofs.Common.{err_says, read}
 use Rattle.eco_store.proofs.Holders.{some_held, some_listed}
 use Rattle.eco_store.proofs.Lent.{lent_tables}
 use Rattle.eco_store.proofs.Values.{shows}

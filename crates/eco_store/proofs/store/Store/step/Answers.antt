@@ -1,10 +1,4 @@
-use Rattle.std.proofs.Common.{◌≢◌, ◌<◌, sym, ap, ◌∙◌, subst}
-use Rattle.std.proofs.lemmas.Result.{IfOk-weaker}
-use Rattle.eco_tables.specs.Tables.{table_in}
-use Rattle.eco_index.specs.Edges.{toggled}
-use Rattle.eco_archetypes.specs.Archetypes.{type_at}
-use Rattle.eco_store.specs.Layout.{seen}
-use Rattle.eco_store.specs.Store.{with_toggled}
+use Rattle.eco_store.proofs.Common.{◌≢◌, ◌<◌, sym, ap, ◌∙◌, subst, IfOk-weaker, table_in, toggled, type_at, seen, with_toggled}
 use Rattle.eco_store.proofs.Laid.{sought_err, sought_laid, sought_ok, still_settled}
 use Rattle.eco_store.proofs.Sorting.{both_ok}
 use Rattle.eco_store.proofs.Stepping.{leads_to}

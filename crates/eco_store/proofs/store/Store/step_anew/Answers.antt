@@ -1,12 +1,5 @@
-use Rattle.std.proofs.Common.{◌≡◌, IsSome, OnErr, OnOk, Some, unwrap_or, subst, sym, ap, ◌∙◌}
-use Rattle.std.proofs.lemmas.Result.{err_from_is_err_and}
-use Rattle.eco_ids.specs.Indices.{changed}
-use Rattle.eco_entities.specs.Registration.{own_place}
-use Rattle.eco_tables.specs.Tables.{no_table, table_in}
-use Rattle.eco_index.specs.Edges.{toggled}
-use Rattle.eco_archetypes.proofs.ArchetypeLemmas.{rows_from_slots, then_rows}
-use Rattle.eco_store.specs.Layout.{seen}
-use Rattle.eco_store.specs.Store.{read, with_toggled, with_type}
+use Rattle.eco_store.proofs.Common.{◌≡◌, IsSome, OnErr, OnOk, Some, unwrap_or, subst, sym, ap, ◌∙◌, err_from_is_err_and, changed, own_place}
+use Rattle.eco_store.proofs.Common.{no_table, table_in, toggled, rows_from_slots, then_rows, seen, read, with_toggled, with_type}
 use Rattle.eco_store.proofs.Coupled.{not_turned}
 use Rattle.eco_store.proofs.Laid.{sought_err, sought_laid, sought_ok, still_settled}
 use Rattle.eco_store.proofs.Stepping.{leads_to}

@@ -1,6 +1,4 @@
-use Rattle.std.proofs.Common.{◌≡◌, sym, subst, OnOk, OnErr}
-use Rattle.eco_store.specs.Layout.{seen}
-use Rattle.eco_store.specs.Store.{stepped}
+use Rattle.eco_store.proofs.Common.{◌≡◌, sym, subst, OnOk, OnErr, seen, stepped}
 use Rattle.eco_store.proofs.store.Store.step_both.Goals as goal
 
 pub returns-clause-ok : goal.returns-clause-ok

@@ -1,6 +1,5 @@
-use Rattle.eco_store.specs.Store.{read}
+use Rattle.eco_store.proofs.Common.{read, err_says}
 use Rattle.eco_store.proofs.Holders.{some_held}
-use Rattle.eco_ids.proofs.Results.{err_says}
 use Rattle.eco_store.proofs.Lent.{lent_tables}
 use Rattle.eco_store.proofs.Values.{shows}
 use Rattle.eco_store.proofs.store.Store.tables_by.Goals as goal

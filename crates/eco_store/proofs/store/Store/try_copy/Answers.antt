@@ -1,9 +1,5 @@
-use Rattle.std.proofs.Common.{subst, ap, ◌∙◌}
-use Rattle.eco_archetypes.specs.Archetypes.{RowlessIn}
+use Rattle.eco_store.proofs.Common.{subst, ap, ◌∙◌, RowlessIn, kept_widths, all_staying, read}
 use Rattle.eco_archetypes.proofs.Copying.{copied_kept, copied_rows, copied_rowless}
-use Rattle.eco_archetypes.proofs.Widths.{kept_widths}
-use Rattle.eco_store.specs.Staying.{all_staying}
-use Rattle.eco_store.specs.Store.{read}
 use Rattle.eco_store.proofs.Laid.{done_idle, laid_alike, only_idle_stay}
 use Rattle.eco_store.proofs.StoreChanges.{same_read}
 use Rattle.eco_store.proofs.store.Store.try_copy.Goals as goal

@@ -1,5 +1,4 @@
-use Rattle.std.proofs.Common.{Some, ap, ◌∙◌}
-use Rattle.eco_ids.specs.Indices.{record_of}
+use Rattle.eco_store.proofs.Common.{Some, ap, ◌∙◌, record_of}
 use Rattle.eco_store.proofs.Values.{stands_type}
 use Rattle.eco_store.proofs.store.Store.type_of.Goals as goal
 

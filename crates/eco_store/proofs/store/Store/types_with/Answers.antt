@@ -1,9 +1,4 @@
-use Rattle.std.proofs.Common.{◌≢◌, ◌↔◌, sym, subst}
-use Rattle.eco_ids.specs.Matching.{pattern_matches}
-use Rattle.std.specs.List.{list_any, AllPairs, Contains}
-use Rattle.std.proofs.lemmas.Result.{IfOk-weaker}
-use Rattle.eco_store.specs.Retyping.{IsTypeBy}
-use Rattle.eco_ids.proofs.Results.{on_err}
+use Rattle.eco_store.proofs.Common.{◌≢◌, ◌↔◌, sym, subst, pattern_matches, list_any, AllPairs, Contains, IfOk-weaker, IsTypeBy, on_err}
 use Rattle.eco_store.proofs.Holders.{some_listed}
 use Rattle.eco_store.proofs.FoundTypes.{tables_there, types_apart, types_listed}
 use Rattle.eco_store.proofs.store.Store.types_with.Goals as goal

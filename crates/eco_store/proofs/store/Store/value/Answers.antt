@@ -1,4 +1,4 @@
-use Rattle.eco_ids.specs.Indices.{record_of}
+use Rattle.eco_store.proofs.Common.{record_of}
 use Rattle.eco_store.proofs.Values.{value_found}
 use Rattle.eco_store.proofs.store.Store.value.Goals as goal
 

@@ -1,5 +1,4 @@
-use Rattle.std.proofs.Common.{◌≡◌, map, take}
-use Rattle.eco_tables.specs.Tables.{table_in}
+use Rattle.eco_store.proofs.Common.{◌≡◌, map, take, table_in}
 use Rattle.eco_store.proofs.store.searching.types_in.Given as goal
 
 abbrev pub invariant-loop-slot : goal.invariant-loop-slot

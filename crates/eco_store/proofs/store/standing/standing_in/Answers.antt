@@ -1,7 +1,4 @@
-use Rattle.std.proofs.Common.{map, ap, ◌∙◌}
-use Rattle.std.proofs.lemmas.Result.{IfOk-weaker}
-use Rattle.eco_store.specs.Store.{read}
-use Rattle.eco_store.specs.declared.standing.Standing.{Standing}
+use Rattle.eco_store.proofs.Common.{map, ap, ◌∙◌, IfOk-weaker, read, Standing}
 use Rattle.eco_store.proofs.IndexWalk.{walked_placed, walked_whose}
 use Rattle.eco_store.proofs.Ranking.{ranked_placed, ranked_whose}
 use Rattle.eco_store.proofs.Sorting.{both_ok}

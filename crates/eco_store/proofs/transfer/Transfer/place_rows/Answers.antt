@@ -1,10 +1,5 @@
-use Rattle.std.proofs.Common.{◌≡◌, ◌+◌, sym, ap, ◌∙◌, subst, arith, unwrap_or, IsTrue, get_or}
-use Rattle.std.specs.Option.{option_copied}
-use Rattle.eco_ids.specs.declared.entity.Entity.{Entity}
-use Rattle.eco_ids.specs.Indices.{changed, is_alive}
-use Rattle.eco_entities.specs.Registration.{placed}
-use Rattle.eco_tables.specs.Table.{TableState, entities_of}
-use Rattle.eco_tables.specs.Tables.{table_in, no_table}
+use Rattle.eco_store.proofs.Common.{◌≡◌, ◌+◌, sym, ap, ◌∙◌, subst, arith, unwrap_or, IsTrue, get_or, option_copied, Entity, changed, is_alive}
+use Rattle.eco_store.proofs.Common.{placed, TableState, entities_of, table_in, no_table}
 use Rattle.eco_store.proofs.WholeMoves.{places_before, row_fits, seat_of_row, next_alive, next_placed}
 use Rattle.eco_store.proofs.transfer.Transfer.place_rows.Goals as goal
 

@@ -1,5 +1,4 @@
-use Rattle.std.proofs.Common.{◌≡◌}
-use Rattle.eco_store.specs.Transfers.{with_places}
+use Rattle.eco_store.proofs.Common.{◌≡◌, with_places}
 use Rattle.eco_store.proofs.transfer.Transfer.place_rows.Given as goal
 
 abbrev pub invariant-loop-row : goal.invariant-loop-row

@@ -1,6 +1,4 @@
-use Rattle.std.proofs.Common.{◌+◌, ap, sym, ◌∙◌, refl}
-use Rattle.eco_tables.specs.Column.{emptied}
-use Rattle.eco_tables.specs.Table.{rows_of}
+use Rattle.eco_tables.proofs.Common.{◌+◌, ap, sym, ◌∙◌, refl, emptied, rows_of}
 use Rattle.eco_tables.proofs.Rows.{length-rows_of, mapped_table, rewritten, shape_cleared}
 use Rattle.eco_tables.proofs.table.Table.clear.Goals as goal
 

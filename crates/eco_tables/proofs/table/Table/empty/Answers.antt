@@ -1,6 +1,4 @@
-use Rattle.std.proofs.Common.{ap, refl}
-use Rattle.eco_tables.specs.Column.{emptied}
-use Rattle.eco_tables.specs.Table.{rows_of}
+use Rattle.eco_tables.proofs.Common.{ap, refl, emptied, rows_of}
 use Rattle.eco_tables.proofs.Rows.{mapped_table, rewritten, shape_emptied}
 use Rattle.eco_tables.proofs.table.Table.empty.Goals as goal
 

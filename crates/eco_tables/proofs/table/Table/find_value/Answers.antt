@@ -1,7 +1,4 @@
-use Rattle.std.proofs.Common.{ap, sym, ◌∙◌}
-use Rattle.std.specs.FinMap.Entries.{find}
-use Rattle.eco_ids.specs.Order.{id_cmp}
-use Rattle.eco_tables.specs.Column.{held_in}
+use Rattle.eco_tables.proofs.Common.{ap, sym, ◌∙◌, find, id_cmp, held_in}
 use Rattle.eco_tables.proofs.Rows.{ascends, found_read, none_read, row_in_columns, row_within, zeros_read}
 use Rattle.eco_tables.proofs.table.Table.find_value.Goals as goal
 

@@ -1,8 +1,5 @@
-use Rattle.std.proofs.Common.{◌≡◌, ◌≤◌, false, if◌then◌else◌, map, length, replicate, sym, ap, ◌∙◌, arith}
-use Rattle.eco_ids.specs.World.{zeros}
-use Rattle.eco_ids.specs.Order.{id_cmp, id_eq, has_item, with_item}
-use Rattle.eco_tables.specs.Column.{kind_of, with_column}
-use Rattle.eco_tables.specs.Table.{table_of, width_among}
+use Rattle.eco_tables.proofs.Common.{◌≡◌, ◌≤◌, false, if◌then◌else◌, map, length, replicate, sym, ap, ◌∙◌, arith, zeros, id_cmp, id_eq}
+use Rattle.eco_tables.proofs.Common.{has_item, with_item, kind_of, with_column, table_of, width_among}
 use Rattle.eco_tables.proofs.Turning.{more_held, more_width, shape_more, turned_table}
 use Rattle.eco_tables.proofs.table.Table.gain.Goals as goal
 

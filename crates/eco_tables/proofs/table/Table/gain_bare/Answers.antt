@@ -1,7 +1,4 @@
-use Rattle.std.proofs.Common.{◌≡◌, map, refl, ◌∙◌}
-use Rattle.eco_ids.specs.Order.{id_cmp, with_item}
-use Rattle.eco_tables.specs.Column.{kind_of}
-use Rattle.eco_tables.specs.Table.{rows_of, width_among}
+use Rattle.eco_tables.proofs.Common.{◌≡◌, map, refl, ◌∙◌, id_cmp, with_item, kind_of, rows_of, width_among}
 use Rattle.eco_tables.proofs.Turning.{bare_wide, shape_bare, turned_table}
 use Rattle.eco_tables.proofs.table.Table.gain_bare.Goals as goal
 

@@ -1,7 +1,4 @@
-use Rattle.std.proofs.Common.{◌≤◌, ◌+◌, ◌-◌, arith, ◌∙◌, length}
-use Rattle.eco_ids.proofs.Results.{err_says}
-use Rattle.std.specs.Vec.{vec_capacity}
-use Rattle.eco_tables.specs.Table.{table_of}
+use Rattle.eco_tables.proofs.Common.{◌≤◌, ◌+◌, ◌-◌, arith, ◌∙◌, length, err_says, vec_capacity, table_of}
 use Rattle.eco_tables.proofs.Rows.{refilled_columns, same_table, shape_reserved}
 use Rattle.eco_tables.proofs.table.Table.grow.Goals as goal
 

@@ -1,7 +1,4 @@
-use Rattle.std.proofs.Common.{Some, None, is_some, if◌then◌else◌, ap, ◌∙◌}
-use Rattle.eco_tables.specs.Column.{kind_of}
-use Rattle.eco_tables.specs.Table.{width_among}
-use Rattle.std.specs.Prelude.{map}
+use Rattle.eco_tables.proofs.Common.{Some, None, is_some, if◌then◌else◌, ap, ◌∙◌, kind_of, width_among, map}
 use Rattle.eco_tables.proofs.Widths.{width-each}
 use Rattle.eco_tables.proofs.table.Table.ids_have_widths.Goals as goal
 

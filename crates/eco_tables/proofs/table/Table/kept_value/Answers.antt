@@ -1,6 +1,4 @@
-use Rattle.std.proofs.Common.{◌<◌, ap, get_or, length, subst, sym, ◌∙◌, Some}
-use Rattle.eco_ids.specs.World.{zeros}
-use Rattle.eco_tables.specs.Column.{ColumnState}
+use Rattle.eco_tables.proofs.Common.{◌<◌, ap, get_or, length, subst, sym, ◌∙◌, Some, zeros, ColumnState}
 use Rattle.eco_tables.proofs.Held.{found_at, place_within}
 use Rattle.eco_tables.proofs.Kept.{unkept}
 use Rattle.eco_tables.proofs.Rows.{ascends, found_read, row_in_columns, row_within}

@@ -1,7 +1,4 @@
-use Rattle.std.proofs.Common.{◌≡◌, ◌∙◌}
-use Rattle.eco_ids.specs.Order.{id_cmp, without_item}
-use Rattle.eco_tables.specs.Column.{without_column}
-use Rattle.eco_tables.specs.Table.{table_of}
+use Rattle.eco_tables.proofs.Common.{◌≡◌, ◌∙◌, id_cmp, without_item, without_column, table_of}
 use Rattle.eco_tables.proofs.Rows.{ascends}
 use Rattle.eco_tables.proofs.Turning.{fewer_held, fewer_wide, shape_fewer, turned_table}
 use Rattle.eco_tables.proofs.table.Table.lose.Goals as goal

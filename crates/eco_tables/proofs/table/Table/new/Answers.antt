@@ -1,5 +1,4 @@
-use Rattle.std.proofs.Common.{ap, ◌∙◌, arith, map, refl}
-use Rattle.eco_tables.specs.Table.{kinds_of, rows_of, width_among}
+use Rattle.eco_tables.proofs.Common.{ap, ◌∙◌, arith, map, refl, kinds_of, rows_of, width_among}
 use Rattle.eco_tables.proofs.Widths.{are_kinds, widths_kept}
 use Rattle.eco_tables.proofs.table.Table.new.Goals as goal
 

@@ -1,8 +1,5 @@
-use Rattle.std.proofs.Common.{◌≡◌, ◌++◌, ap, sym, ◌∙◌, refl, length, take, drop}
-use Rattle.std.specs.List.{swap_remove, slice_get}
-use Rattle.eco_tables.specs.Column.{with_removed}
-use Rattle.eco_tables.specs.Table.{rows_of}
-use Rattle.eco_tables.specs.Tables.{no_row}
+use Rattle.eco_tables.proofs.Common.{◌≡◌, ◌++◌, ap, sym, ◌∙◌, refl, length, take, drop, swap_remove, with_removed, rows_of, no_row}
+use Rattle.std.specs.List.{slice_get}
 use Rattle.eco_tables.proofs.Rows.{entities_of_all, mapped_table, removed_rows, rewritten, row_in_columns, row_within, shape_removed}
 use Rattle.eco_tables.proofs.table.Table.swap_out.Goals as goal
 

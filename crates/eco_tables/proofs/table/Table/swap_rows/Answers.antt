@@ -1,6 +1,5 @@
-use Rattle.std.proofs.Common.{◌≡◌, ◌≤◌, ◌++◌, ◌-◌, ◌∷◌, [], List, eqb-true, ap, sym, ◌∙◌, arith, refl, length, map, subst, true≢false}
-use Rattle.eco_tables.specs.Column.{kind_of}
-use Rattle.eco_tables.specs.Table.{AreKinds, retyped_row, rows_of}
+use Rattle.eco_tables.proofs.Common.{◌≡◌, ◌≤◌, ◌++◌, ◌-◌, ◌∷◌, [], List, eqb-true, ap, sym, ◌∙◌, arith, refl, length, map}
+use Rattle.eco_tables.proofs.Common.{subst, true≢false, kind_of, AreKinds, retyped_row, rows_of}
 use Rattle.eco_tables.proofs.Rows.{changed_table, length-rows_of, taken_rows}
 use Rattle.eco_tables.proofs.table.Table.swap_rows.Goals as goal
 

@@ -1,7 +1,5 @@
-use Rattle.std.proofs.Common.{◌≡◌, ◌≤◌, ◌+◌, arith, ap, ◌∙◌, length, map}
-use Rattle.std.specs.Vec.{vec_capacity}
-use Rattle.eco_tables.specs.Column.{contents}
-use Rattle.eco_tables.specs.Table.{retyped_row, rows_from, width_among}
+use Rattle.eco_tables.proofs.Common.{◌≡◌, ◌≤◌, ◌+◌, arith, ap, ◌∙◌, length, map, vec_capacity, contents, retyped_row, rows_from}
+use Rattle.eco_tables.proofs.Common.{width_among}
 use Rattle.eco_tables.proofs.Rows.{shape_reserved, contents_kinds, contents_rows}
 use Rattle.eco_tables.proofs.table.Table.try_copy.Goals as goal
 

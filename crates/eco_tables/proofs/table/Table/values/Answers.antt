@@ -1,4 +1,4 @@
-use Rattle.std.proofs.Common.{◌≡◌, ◌<◌, ℕ, ap, arith, nat_lt, sym, true, Some, ◌∙◌}
+use Rattle.eco_tables.proofs.Common.{◌≡◌, ◌<◌, ℕ, ap, arith, nat_lt, sym, true, Some, ◌∙◌}
 use Rattle.std.proofs.lemmas.Bool.Decides.{nat_tests}
 use Rattle.eco_tables.proofs.Held.{has_place, place_within}
 use Rattle.eco_tables.proofs.Kept.{wide}

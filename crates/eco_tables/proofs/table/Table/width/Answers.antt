@@ -1,4 +1,4 @@
-use Rattle.std.proofs.Common.{ap, sym, ◌∙◌, Some}
+use Rattle.eco_tables.proofs.Common.{ap, sym, ◌∙◌, Some}
 use Rattle.eco_tables.proofs.Held.{place_within}
 use Rattle.eco_tables.proofs.Rows.{ascends, column_width, no_width, widthless_in}
 use Rattle.eco_tables.proofs.table.Table.width.Goals as goal

@@ -1,6 +1,4 @@
-use Rattle.std.proofs.lemmas.List.Elements.{All-nil}
-use Rattle.eco_tables.specs.Table.{HasIds}
-use Rattle.eco_tables.specs.Tables.{cleared}
+use Rattle.eco_tables.proofs.Common.{All-nil, HasIds, cleared}
 use Rattle.eco_tables.proofs.Slots.{still, wrote}
 use Rattle.eco_tables.proofs.tables.Tables.clear.Goals as goal
 

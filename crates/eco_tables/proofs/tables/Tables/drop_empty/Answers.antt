@@ -1,6 +1,5 @@
-use Rattle.eco_tables.specs.Tables.{SetsSlot, rowless_type, slot_of}
-use Rattle.std.proofs.Common.{sym, ◌∙◌, subst, None, Some, set, ap, arith, is_some, refl, true≢false}
-use Rattle.std.proofs.lemmas.List.{get_or_default}
+use Rattle.eco_tables.proofs.Common.{SetsSlot, rowless_type, slot_of, sym, ◌∙◌, subst, None, Some, set, ap, arith, is_some, refl, true≢false}
+use Rattle.eco_tables.proofs.Common.{get_or_default}
 use Rattle.eco_tables.proofs.Slots.{at_slot, dropped, none_is, rowless_ids, rowless_within, sets_slot, some_there}
 use Rattle.eco_tables.proofs.tables.Tables.drop_empty.Goals as goal
 

@@ -1,5 +1,4 @@
-use Rattle.std.proofs.Common.{◌≡◌, [], Some, arith, ap, sym, set, subst}
-use Rattle.eco_tables.specs.Tables.{SetsSlot}
+use Rattle.eco_tables.proofs.Common.{◌≡◌, [], Some, arith, ap, sym, set, subst, SetsSlot}
 use Rattle.eco_tables.proofs.RowIds.{none_lacks}
 use Rattle.eco_tables.proofs.Slots.{reused, reused_slot, sets_slot}
 use Rattle.eco_tables.proofs.tables.Tables.insert.Goals as goal

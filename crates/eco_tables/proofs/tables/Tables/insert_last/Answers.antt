@@ -1,5 +1,5 @@
-use Rattle.std.specs.Prelude.{Some, vec_capacity}
-use Rattle.std.proofs.Common.{◌≡◌, ◌≤◌, ◌+◌, length, arith}
+use Rattle.eco_tables.proofs.Common.{Some, ◌≡◌, ◌≤◌, ◌+◌, length, arith}
+use Rattle.std.specs.Prelude.{vec_capacity}
 use Rattle.eco_tables.proofs.Slots.{added, pushed_slot, end_vacant}
 use Rattle.eco_tables.proofs.tables.Tables.insert_last.Goals as goal
 

@@ -1,5 +1,4 @@
-use Rattle.eco_ids.specs.Order.{id_cmp, without_item}
-use Rattle.eco_tables.specs.Tables.{turned}
+use Rattle.eco_tables.proofs.Common.{id_cmp, without_item, turned}
 use Rattle.eco_tables.proofs.RowIds.{turned_have}
 use Rattle.eco_tables.proofs.Slots.{still, wrote}
 use Rattle.eco_tables.proofs.tables.Tables.lose.Goals as goal

@@ -1,7 +1,4 @@
-use Rattle.std.proofs.Common.{◌≡◌, ap, ◌∙◌, Some, unwrap_or}
-use Rattle.std.proofs.lemmas.List.Elements.{All-nil}
-use Rattle.eco_tables.specs.Table.{HasIds}
-use Rattle.eco_tables.specs.Tables.{no_table, slot_of, table_in, with_rows, without_rows}
+use Rattle.eco_tables.proofs.Common.{◌≡◌, ap, ◌∙◌, Some, unwrap_or, All-nil, HasIds, no_table, slot_of, table_in, with_rows, without_rows}
 use Rattle.eco_tables.proofs.RowIds.{joined_have}
 use Rattle.eco_tables.proofs.Slots.{both_lent, both_still, some_within}
 use Rattle.eco_tables.proofs.tables.Tables.move_rows.Goals as goal

@@ -1,5 +1,4 @@
-use Rattle.std.proofs.Common.{◌∷◌, []}
-use Rattle.eco_tables.specs.Tables.{new_row, with_row}
+use Rattle.eco_tables.proofs.Common.{◌∷◌, [], new_row, with_row}
 use Rattle.eco_tables.proofs.RowIds.{joined_have}
 use Rattle.eco_tables.proofs.Slots.{room_some, still, wrote}
 use Rattle.eco_tables.proofs.tables.Tables.push_row.Goals as goal

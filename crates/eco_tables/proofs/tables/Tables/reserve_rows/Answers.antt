@@ -1,6 +1,4 @@
-use Rattle.std.proofs.Common.{ap}
-use Rattle.eco_ids.proofs.Results.{on_err}
-use Rattle.eco_tables.specs.Tables.{with_room}
+use Rattle.eco_tables.proofs.Common.{ap, on_err, with_room}
 use Rattle.eco_tables.proofs.Slots.{new_is, own_is, roomed, still}
 use Rattle.eco_tables.proofs.tables.Tables.reserve_rows.Goals as goal
 

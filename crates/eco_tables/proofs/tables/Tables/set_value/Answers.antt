@@ -1,4 +1,4 @@
-use Rattle.eco_tables.specs.Tables.{with_written}
+use Rattle.eco_tables.proofs.Common.{with_written}
 use Rattle.eco_tables.proofs.RowIds.{written_has}
 use Rattle.eco_tables.proofs.Slots.{own_is, row_some, row_there, still, wrote}
 use Rattle.eco_tables.proofs.tables.Tables.set_value.Goals as goal

@@ -1,4 +1,4 @@
-use Rattle.eco_tables.specs.Tables.{without_row}
+use Rattle.eco_tables.proofs.Common.{without_row}
 use Rattle.eco_tables.proofs.RowIds.{removed_has}
 use Rattle.eco_tables.proofs.Slots.{row_some, row_there, still, wrote}
 use Rattle.eco_tables.proofs.tables.Tables.swap_out.Goals as goal

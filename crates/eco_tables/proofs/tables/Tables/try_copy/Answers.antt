@@ -1,7 +1,4 @@
-use Rattle.std.proofs.Common.{◌≡◌, ◌≤◌, arith, ap, ◌∙◌, length, map}
-use Rattle.std.specs.Vec.{vec_capacity}
-use Rattle.std.proofs.lemmas.List.{length-map}
-use Rattle.eco_tables.specs.Tables.{slot_of, without_room}
+use Rattle.eco_tables.proofs.Common.{◌≡◌, ◌≤◌, arith, ap, ◌∙◌, length, map, vec_capacity, length-map, slot_of, without_room}
 use Rattle.eco_tables.proofs.Copies.{slot_copied, slots_copied}
 use Rattle.eco_tables.proofs.tables.Tables.try_copy.Goals as goal
 

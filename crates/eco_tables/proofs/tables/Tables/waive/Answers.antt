@@ -1,4 +1,4 @@
-use Rattle.eco_tables.specs.Tables.{with_room}
+use Rattle.eco_tables.proofs.Common.{with_room}
 use Rattle.eco_tables.proofs.Slots.{still, wrote}
 use Rattle.eco_tables.proofs.tables.Tables.waive.Goals as goal
 

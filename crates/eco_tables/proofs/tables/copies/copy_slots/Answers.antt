@@ -1,6 +1,4 @@
-use Rattle.eco_tables.specs.Tables.{without_room}
-use Rattle.std.proofs.Common.{map, ap, ◌∙◌}
-use Rattle.std.proofs.lemmas.List.{take_all}
+use Rattle.eco_tables.proofs.Common.{without_room, map, ap, ◌∙◌, take_all}
 use Rattle.eco_tables.proofs.Copies.{pushed_more}
 use Rattle.eco_tables.proofs.tables.copies.copy_slots.Goals as goal
 

@@ -1,5 +1,4 @@
-use Rattle.std.proofs.Common.{◌≡◌, map, take}
-use Rattle.eco_tables.specs.Tables.{without_room}
+use Rattle.eco_tables.proofs.Common.{◌≡◌, map, take, without_room}
 use Rattle.eco_tables.proofs.tables.copies.copy_slots.Given as goal
 
 abbrev pub invariant-loop-slot : goal.invariant-loop-slot

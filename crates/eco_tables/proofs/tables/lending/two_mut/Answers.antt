@@ -1,4 +1,4 @@
-use Rattle.std.proofs.Common.{◌<◌, arith, length, refl, sym, ◌∙◌}
+use Rattle.eco_tables.proofs.Common.{◌<◌, arith, length, refl, sym, ◌∙◌}
 use Rattle.eco_tables.proofs.Slots.{both_set, high_at, low_at, set_other_way}
 use Rattle.eco_tables.proofs.tables.lending.two_mut.Goals as goal
 

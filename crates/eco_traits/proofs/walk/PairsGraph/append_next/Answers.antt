@@ -1,4 +1,4 @@
-use Rattle.std.proofs.Common.{Some, ap, ◌∙◌}
+use Rattle.eco_traits.proofs.Common.{Some, ap, ◌∙◌}
 use Rattle.eco_traits.proofs.Walks.{appended}
 use Rattle.eco_traits.proofs.walk.PairsGraph.append_next.Goals as goal
 

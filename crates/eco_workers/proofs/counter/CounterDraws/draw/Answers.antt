@@ -1,4 +1,4 @@
-use Rattle.std.proofs.Common.{refl}
+use Rattle.eco_workers.proofs.Common.{refl}
 use Rattle.eco_workers.proofs.Turns.{drawn_more}
 use Rattle.eco_workers.proofs.counter.CounterDraws.draw.Goals as goal
 

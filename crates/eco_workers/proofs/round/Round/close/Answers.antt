@@ -1,5 +1,4 @@
-use Rattle.std.proofs.Common.{◌-◌, min, sym, ap, ◌∙◌, arith}
-use Rattle.eco_workers.specs.Counting.{once}
+use Rattle.eco_workers.proofs.Common.{◌-◌, min, sym, ap, ◌∙◌, arith, once}
 use Rattle.eco_workers.proofs.OnlySeat.{alone}
 use Rattle.eco_workers.proofs.round.Round.close.Goals as goal
 

@@ -1,7 +1,5 @@
-use Rattle.std.proofs.Common.{◌≡◌, ◌+◌, length, length-append, [], ◌∷◌, ap, ◌∙◌, arith, cond, eqb}
-use Rattle.eco_workers.specs.declared.word.Share.{Share}
-use Rattle.eco_workers.specs.Counting.{times}
-use Rattle.eco_workers.specs.Rounds.{claimed, drawn, is_done, is_dry, IsSeatOf}
+use Rattle.eco_workers.proofs.Common.{◌≡◌, ◌+◌, length, length-append, [], ◌∷◌, ap, ◌∙◌, arith, cond, eqb, Share, times, claimed, drawn}
+use Rattle.eco_workers.proofs.Common.{is_done, is_dry, IsSeatOf}
 use Rattle.eco_workers.proofs.Totals.{total-append}
 use Rattle.eco_workers.proofs.Popped.{popped_total, popped_all}
 use Rattle.eco_workers.proofs.Steps.{joins}

@@ -1,7 +1,4 @@
-use Rattle.std.proofs.Common.{◌≡◌, ℕ, ◌+◌, ◌<◌, length}
-use Rattle.std.specs.List.{All}
-use Rattle.eco_workers.specs.Counting.{total, times}
-use Rattle.eco_workers.specs.Rounds.{claimed, drawn, IsSeatOf, done_count, dry_count}
+use Rattle.eco_workers.proofs.Common.{◌≡◌, ℕ, ◌+◌, ◌<◌, length, All, total, times, claimed, drawn, IsSeatOf, done_count, dry_count}
 use Rattle.eco_workers.proofs.round.Round.gather.Given as goal
 
 abbrev pub invariant-loop-seat : goal.invariant-loop-seat

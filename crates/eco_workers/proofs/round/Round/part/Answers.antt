@@ -1,4 +1,4 @@
-use Rattle.std.proofs.Common.{arith}
+use Rattle.eco_workers.proofs.Common.{arith}
 use Rattle.eco_workers.proofs.Steps.{splits}
 use Rattle.eco_workers.proofs.round.Round.part.Goals as goal
 

@@ -1,9 +1,5 @@
-use Rattle.std.proofs.Common.{◌≡◌, ◌+◌, ◌-◌, List, [], refl, sym, ◌∙◌, subst, arith}
-use Rattle.std.specs.List.{All}
-use Rattle.std.proofs.lemmas.List.Elements.{All-push, All-nil}
-use Rattle.eco_workers.specs.declared.seat.Seat.{Seat}
-use Rattle.eco_workers.specs.Counting.{share}
-use Rattle.eco_workers.specs.Rounds.{IsNewSeatOf}
+use Rattle.eco_workers.proofs.Common.{◌≡◌, ◌+◌, ◌-◌, List, [], refl, sym, ◌∙◌, subst, arith, All, All-push, All-nil, Seat, share}
+use Rattle.eco_workers.proofs.Common.{IsNewSeatOf}
 use Rattle.eco_workers.proofs.round.Round.part_all.Goals as goal
 
 pub loop-k-init : goal.loop-k-init

@@ -1,7 +1,4 @@
-use Rattle.std.proofs.Common.{◌≡◌, ◌+◌, ◌-◌, [], vec_len}
-use Rattle.std.specs.List.{All}
-use Rattle.eco_workers.specs.Counting.{share}
-use Rattle.eco_workers.specs.Rounds.{IsNewSeatOf}
+use Rattle.eco_workers.proofs.Common.{◌≡◌, ◌+◌, ◌-◌, [], vec_len, All, share, IsNewSeatOf}
 use Rattle.eco_workers.proofs.round.Round.part_all.Given as goal
 
 abbrev pub invariant-loop-k : goal.invariant-loop-k

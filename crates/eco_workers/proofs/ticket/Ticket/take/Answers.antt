@@ -1,8 +1,5 @@
-use Rattle.std.proofs.Common.{◌<◌, cond, arith, ap, ◌∙◌}
-use mathlib.Core.Option.{none}
+use Rattle.eco_workers.proofs.Common.{◌<◌, cond, arith, ap, ◌∙◌, none, ascends, Share}
 use Rattle.atomic_table.specs.Table.{step}
-use Rattle.eco_workers.specs.Counting.{ascends}
-use Rattle.eco_workers.specs.declared.word.Share.{Share}
 use Rattle.eco_workers.proofs.Steps.{takes}
 use Rattle.eco_workers.proofs.Totals.{ascends_push}
 use Rattle.eco_workers.proofs.ticket.Ticket.take.Goals as goal

@@ -1,10 +1,5 @@
-use Rattle.std.proofs.Common.{◌∷◌, [], not}
+use Rattle.eco_world.proofs.Common.{◌∷◌, [], not, err_from_is_err_and, DeadId, Answers, Extends, unchanged, has, names_living}
 use Rattle.std.specs.Bool.{MatchBool}
-use Rattle.std.proofs.lemmas.Result.{err_from_is_err_and}
-use Rattle.eco_ids.specs.declared.refusal.Refusal.TheVariants.{DeadId}
-use Rattle.eco_ids.specs.Outcome.{Answers}
-use Rattle.eco_ids.specs.Step.{Extends, unchanged}
-use Rattle.eco_ids.specs.World.{has, names_living}
 use Rattle.eco_world.proofs.Steps.{refused}
 use Rattle.eco_world.proofs.world.World.add.Goals as goal
 

@@ -1,9 +1,4 @@
-use Rattle.std.proofs.Common.{sym, ap, subst}
-use Rattle.eco_ids.specs.Indices.{Indexed}
-use Rattle.eco_ids.specs.Lawful.{IsLawful}
-use Rattle.eco_ids.specs.World.{Record}
-use Rattle.eco_store.specs.Store.{StoreState}
-use Rattle.eco_world.specs.Worlds.{asked_by, world_with}
+use Rattle.eco_world.proofs.Common.{sym, ap, subst, Indexed, IsLawful, Record, StoreState, asked_by, world_with}
 use Rattle.eco_world.proofs.Queried.{lawful_with}
 use Rattle.eco_world.proofs.world.World.add_query.Goals as goal
 

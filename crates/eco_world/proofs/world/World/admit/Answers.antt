@@ -1,7 +1,4 @@
-use Rattle.std.proofs.Common.{◌&&◌, nat_lt}
-use Rattle.eco_ids.specs.Births.{Admits, may_admit}
-use Rattle.eco_ids.specs.World.{OnEntities}
-use Rattle.eco_world.specs.Worlds.{asked_by}
+use Rattle.eco_world.proofs.Common.{◌&&◌, nat_lt, Admits, may_admit, OnEntities, asked_by}
 use Rattle.eco_world.proofs.Steps.{lifted, met_lawful}
 use Rattle.eco_world.proofs.world.World.admit.Goals as goal
 

@@ -1,10 +1,5 @@
-use Rattle.std.proofs.Common.{◌≡◌, ◌++◌, ◌∷◌, [], List, map, length, refl, ap, sym, ◌∙◌, subst, append_assoc, append-nil, arith}
-use Rattle.std.specs.List.{All}
-use Rattle.std.proofs.lemmas.List.{map-append}
-use Rattle.std.proofs.lemmas.List.Elements.{All-push}
-use Rattle.eco_ids.specs.Order.{id_cmp, without_item}
-use Rattle.eco_store.specs.declared.type_change.TypeChange.{TypeChange}
-use Rattle.eco_world.specs.Worlds.{asked_by}
+use Rattle.eco_world.proofs.Common.{◌≡◌, ◌++◌, ◌∷◌, [], List, map, length, refl, ap, sym, ◌∙◌, subst, append_assoc, append-nil, arith}
+use Rattle.eco_world.proofs.Common.{All, map-append, All-push, id_cmp, without_item, TypeChange, asked_by}
 use Rattle.eco_world.proofs.Removals.{taken_out_of_all}
 use Rattle.eco_world.proofs.world.World.changes_without.Goals as goal
 

@@ -1,7 +1,4 @@
-use Rattle.std.proofs.Common.{◌≡◌, ◌++◌, map}
-use Rattle.std.specs.List.{All}
-use Rattle.eco_ids.specs.Order.{id_cmp, without_item}
-use Rattle.eco_store.specs.declared.type_change.TypeChange.{TypeChange}
+use Rattle.eco_world.proofs.Common.{◌≡◌, ◌++◌, map, All, id_cmp, without_item, TypeChange}
 use Rattle.eco_world.proofs.world.World.changes_without.Given as goal
 
 abbrev pub invariant-loop-ids : goal.invariant-loop-ids

@@ -1,8 +1,4 @@
-use Rattle.std.proofs.Common.{not, is_some, ◌∷◌, []}
-use Rattle.eco_ids.specs.declared.refusal.Refusal.TheVariants.{DeadId, NotData, TooWide}
-use Rattle.eco_ids.specs.Data.{arity, fits}
-use Rattle.eco_ids.specs.World.{names_living}
-use Rattle.std.proofs.lemmas.Result.{err_from_is_err_and}
+use Rattle.eco_world.proofs.Common.{not, is_some, ◌∷◌, [], DeadId, NotData, TooWide, arity, fits, names_living, err_from_is_err_and}
 use Rattle.eco_world.proofs.Setting.{unsettable}
 use Rattle.eco_world.proofs.world.World.check_set.Goals as goal
 

@@ -1,9 +1,5 @@
-use Rattle.std.proofs.Common.{true≢false, [], Some, Ok, refl, sym, ap, ◌∙◌, subst}
-use Rattle.std.proofs.lemmas.Result.{err_from_is_err_and}
-use Rattle.eco_ids.specs.Lawful.{IsLawful}
-use Rattle.eco_ids.specs.Order.{entity_eq}
-use Rattle.eco_ids.specs.Step.{Loses, changed}
-use Rattle.eco_store.specs.Store.{with_type}
+use Rattle.eco_world.proofs.Common.{true≢false, [], Some, Ok, refl, sym, ap, ◌∙◌, subst, err_from_is_err_and, IsLawful, entity_eq, Loses, changed}
+use Rattle.eco_world.proofs.Common.{with_type}
 use Rattle.eco_world.proofs.Changes.{had_ids}
 use Rattle.eco_world.proofs.Steps.{refused}
 use Rattle.eco_world.proofs.Extending.{loses}

@@ -1,7 +1,5 @@
-use Rattle.std.proofs.Common.{ap, sym, ◌∙◌}
-use Rattle.eco_ids.specs.Mirrors.{goes_too}
+use Rattle.eco_world.proofs.Common.{ap, sym, ◌∙◌, goes_too, one_by_one, takes}
 use Rattle.eco_world.specs.declared.loss.Loss.TheVariants.{All}
-use Rattle.eco_world.specs.Losses.{one_by_one, takes}
 use Rattle.eco_world.proofs.Losing.{cleared_all}
 use Rattle.eco_world.proofs.world.World.clear_mirrored.Goals as goal
 

@@ -1,14 +1,6 @@
-use Rattle.std.proofs.Common.{ℕ, ◌≤◌, ◌||◌, nat_le, IsTrue, Some, le-leb, arith, rules}
+use Rattle.eco_world.proofs.Common.{ℕ, ◌≤◌, ◌||◌, nat_le, IsTrue, Some, le-leb, arith, rules, option_copied, First, Second, Edition, largest_arity}
+use Rattle.eco_world.proofs.Common.{Makes, MakesComponent, component_record, is_proper_arity, both, record_name, asked_by}
 use Rattle.std.proofs.lemmas.Grind.{common_steps}
-use Rattle.std.specs.Option.{option_copied}
-use Rattle.eco_ids.specs.declared.edition.Edition.TheVariants.{First, Second}
-use Rattle.eco_ids.specs.declared.edition.Edition.{Edition}
-use Rattle.eco_ids.specs.Edition.{largest_arity}
-use Rattle.eco_ids.specs.Births.{Makes, MakesComponent, component_record}
-use Rattle.eco_ids.specs.Lawful.{is_proper_arity}
-use Rattle.eco_ids.proofs.Ascending.{both}
-use Rattle.eco_store.specs.Store.{record_name}
-use Rattle.eco_world.specs.Worlds.{asked_by}
 use Rattle.eco_world.proofs.Steps.{lifted, met_lawful}
 use Rattle.eco_world.proofs.world.World.component.Goals as goal
 

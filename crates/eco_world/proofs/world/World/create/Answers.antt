@@ -1,7 +1,4 @@
-use Rattle.std.specs.Option.{option_copied}
-use Rattle.eco_ids.specs.Births.{Creates, Makes, bare}
-use Rattle.eco_store.specs.Store.{record_name}
-use Rattle.eco_world.specs.Worlds.{asked_by}
+use Rattle.eco_world.proofs.Common.{option_copied, Creates, Makes, bare, record_name, asked_by}
 use Rattle.eco_world.proofs.Steps.{lifted, met_lawful}
 use Rattle.eco_world.proofs.world.World.create.Goals as goal
 

@@ -1,12 +1,5 @@
-use Rattle.std.proofs.Common.{◌≡◌, ◌∷◌, [], IsTrue, Ok, sym, ap, ◌∙◌, subst}
-use Rattle.std.proofs.lemmas.Result.{err_from_is_err_and}
-use Rattle.eco_ids.specs.Builtin.{is_builtin}
-use Rattle.eco_ids.specs.Cleanup.{Deletes}
-use Rattle.eco_ids.specs.Delete.{DeletesOne}
-use Rattle.eco_ids.specs.Lawful.{IsLawful}
-use Rattle.eco_ids.specs.Order.{entity_cmp, has_item}
-use Rattle.eco_ids.specs.World.{WorldState, is_alive}
-use Rattle.eco_world.specs.Worlds.{asked_by, world_with}
+use Rattle.eco_world.proofs.Common.{◌≡◌, ◌∷◌, [], IsTrue, Ok, sym, ap, ◌∙◌, subst, err_from_is_err_and, is_builtin, Deletes, DeletesOne}
+use Rattle.eco_world.proofs.Common.{IsLawful, entity_cmp, has_item, WorldState, is_alive, asked_by, world_with}
 use Rattle.eco_world.proofs.Queried.{ends_with}
 use Rattle.eco_world.proofs.Deleting.{one_deleted}
 use Rattle.eco_world.proofs.Steps.{met_lawful, refused}

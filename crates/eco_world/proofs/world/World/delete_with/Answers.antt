@@ -1,10 +1,4 @@
-use Rattle.std.proofs.Common.{IsTrue, sym, ap, ◌∙◌}
-use Rattle.eco_ids.specs.Builtin.{is_builtins}
-use Rattle.eco_ids.specs.Delete.{DeletesWith}
-use Rattle.eco_ids.specs.Order.{entity_cmp, has_item}
-use Rattle.eco_ids.specs.World.{WorldState}
-use Rattle.eco_store.specs.Holders.{entities_with}
-use Rattle.eco_world.specs.Worlds.{asked_by, world_with}
+use Rattle.eco_world.proofs.Common.{IsTrue, sym, ap, ◌∙◌, is_builtins, DeletesWith, entity_cmp, has_item, WorldState, entities_with, asked_by, world_with}
 use Rattle.eco_world.proofs.Holders.{found_holders}
 use Rattle.eco_world.proofs.Deleting.{with_deleted}
 use Rattle.eco_world.proofs.Queried.{ends_with}

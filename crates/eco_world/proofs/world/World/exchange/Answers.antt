@@ -1,5 +1,4 @@
-use Rattle.eco_ids.specs.Lawful.{IsLawful}
-use Rattle.eco_world.specs.Worlds.{asked_by, world_with}
+use Rattle.eco_world.proofs.Common.{IsLawful, asked_by, world_with}
 use Rattle.eco_world.proofs.Changes.{by_result}
 use Rattle.eco_world.proofs.world.World.exchange.Goals as goal
 

@@ -1,16 +1,10 @@
-use Rattle.std.proofs.Common.{List, Ok, Some, sym, ap, ◌∙◌, subst}
-use Rattle.std.proofs.lemmas.Result.{err_from_is_err_and}
-use Rattle.eco_ids.specs.Lawful.{IsLawful}
-use Rattle.eco_ids.specs.declared.id.Id.{Id}
-use Rattle.eco_ids.specs.Step.{Adds, changed, with_mirror}
-use Rattle.eco_store.specs.Store.{with_type}
-use Rattle.eco_traits.specs.Target.{FindsTarget, FindsType, TakesOwn, is_own_type, type_meant}
-use Rattle.eco_world.specs.Types.{type_of}
+use Rattle.eco_world.proofs.Common.{List, Ok, Some, sym, ap, ◌∙◌, subst, err_from_is_err_and, IsLawful, Id, Adds, changed, with_mirror, with_type}
+use Rattle.eco_world.proofs.Common.{FindsTarget, FindsType, TakesOwn, is_own_type, type_meant, type_of}
 use Rattle.eco_world.proofs.Changes.{exchanged_in, toggled_in}
 use Rattle.eco_world.proofs.Extending.{IsGrown, adds_there, found_mirrored, found_other, names_live, opposed_add}
 use Rattle.eco_world.proofs.Mirroring.{lone, other}
-use Rattle.eco_world.proofs.world.World.extend.Goals as goal
 use Rattle.eco_world.proofs.world.World.extend.Goals.{In-Some, In_default}
+use Rattle.eco_world.proofs.world.World.extend.Goals as goal
 
 pub returns-in_err-target : goal.returns-in_err-target
 returns-in_err-target c =

@@ -1,12 +1,10 @@
-use Rattle.std.proofs.Common.{Ok, refl, sym, subst}
-use Rattle.eco_ids.specs.Step.{Adds, changed}
-use Rattle.eco_store.specs.Store.{with_toggled}
+use Rattle.eco_world.proofs.Common.{Ok, refl, sym, subst, Adds, changed, with_toggled}
 use Rattle.eco_traits.specs.Prospect.{Foresees}
 use Rattle.eco_world.proofs.Changes.{toggled_in}
 use Rattle.eco_world.proofs.Extending.{IsGrown, adds_there, found_other}
 use Rattle.eco_world.proofs.Mirroring.{unmirrored}
-use Rattle.eco_world.proofs.world.World.gain.Goals as goal
 use Rattle.eco_world.proofs.world.World.gain.Goals.{In-Alone}
+use Rattle.eco_world.proofs.world.World.gain.Goals as goal
 
 pub returns-in-Dead : goal.returns-in-Dead
 returns-in-Dead c =

@@ -1,10 +1,4 @@
-use Rattle.std.proofs.Common.{Some, sym, ap, ◌∙◌, subst}
-use Rattle.eco_ids.specs.Lawful.{IsLawful}
-use Rattle.eco_ids.specs.Step.{changed, with_mirror}
-use Rattle.eco_store.specs.Store.{with_type}
-use Rattle.eco_traits.specs.Target.{type_meant}
-use Rattle.eco_world.specs.Types.{type_of}
-use Rattle.eco_ids.proofs.Results.{on_ok}
+use Rattle.eco_world.proofs.Common.{Some, sym, ap, ◌∙◌, subst, IsLawful, changed, with_mirror, with_type, type_meant, type_of, on_ok}
 use Rattle.eco_world.proofs.MirrorSteps.{come_both}
 use Rattle.eco_world.proofs.world.World.gain_both.Goals as goal
 

@@ -1,10 +1,4 @@
-use Rattle.std.proofs.Common.{is_some, sym, ap, ◌∙◌}
-use Rattle.std.specs.List.{list_any}
-use Rattle.eco_ids.specs.declared.id.Id.{Id}
-use Rattle.eco_ids.specs.Edition.{has_symmetric}
-use Rattle.eco_ids.specs.Mirrors.{mirror_of}
-use Rattle.eco_ids.specs.World.{held_by}
-use Rattle.eco_world.specs.Types.{type_of}
+use Rattle.eco_world.proofs.Common.{is_some, sym, ap, ◌∙◌, list_any, Id, has_symmetric, mirror_of, held_by, type_of}
 use Rattle.eco_world.proofs.Losing.{none_hold, none_symmetric, some_held}
 use Rattle.eco_world.proofs.world.World.has_mirrors.Goals as goal
 

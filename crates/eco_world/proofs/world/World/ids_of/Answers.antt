@@ -1,4 +1,4 @@
-use Rattle.std.proofs.Common.{◌∙◌}
+use Rattle.eco_world.proofs.Common.{◌∙◌}
 use Rattle.eco_world.proofs.Held.{listed}
 use Rattle.eco_world.proofs.world.World.ids_of.Goals as goal
 

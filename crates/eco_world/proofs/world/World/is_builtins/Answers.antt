@@ -1,12 +1,8 @@
-use Rattle.std.proofs.Common.{◌≡◌, ◌+◌, ◌-◌, ◌<◌, ◌||◌, map, sym, ap, ◌∙◌, arith, subst}
-use Rattle.std.specs.List.{list_any, range_with_len}
-use Rattle.eco_ids.specs.declared.entity.Entity.{Entity}
-use Rattle.eco_ids.specs.Builtin.{is_builtins}
-use Rattle.eco_ids.specs.Edition.{builtin_count}
-use Rattle.eco_ids.specs.World.{WorldState, has}
+use Rattle.eco_world.proofs.Common.{◌≡◌, ◌+◌, ◌-◌, ◌<◌, ◌||◌, map, sym, ap, ◌∙◌, arith, subst, list_any, range_with_len, Entity}
+use Rattle.eco_world.proofs.Common.{is_builtins, builtin_count, WorldState, has}
 use Rattle.eco_world.proofs.Removals.{first_of_rest}
-use Rattle.eco_world.proofs.world.World.is_builtins.Goals as goal
 use Rattle.eco_world.proofs.world.World.is_builtins.Goals.{After-has}
+use Rattle.eco_world.proofs.world.World.is_builtins.Goals as goal
 
 -- one index more
 next : (c : goal.After-has) → is_builtins c.args.self.now c.args.id ≡ (c.has.result || list_any (λ (e : Entity). has c.args.self.now e c.args.id)

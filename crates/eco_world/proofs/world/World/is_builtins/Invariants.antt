@@ -1,9 +1,4 @@
-use Rattle.std.proofs.Common.{◌≡◌, ◌-◌, map}
-use Rattle.std.specs.List.{list_any, range_with_len}
-use Rattle.eco_ids.specs.declared.entity.Entity.{Entity}
-use Rattle.eco_ids.specs.Builtin.{is_builtins}
-use Rattle.eco_ids.specs.Edition.{builtin_count}
-use Rattle.eco_ids.specs.World.{has}
+use Rattle.eco_world.proofs.Common.{◌≡◌, ◌-◌, map, list_any, range_with_len, Entity, is_builtins, builtin_count, has}
 use Rattle.eco_world.proofs.world.World.is_builtins.Given as goal
 
 abbrev pub invariant-loop-index : goal.invariant-loop-index

@@ -1,10 +1,5 @@
-use Rattle.std.proofs.Common.{ap, ◌∙◌}
-use Rattle.std.specs.List.{list_any}
-use Rattle.eco_ids.specs.declared.entity.Entity.{Entity}
+use Rattle.eco_world.proofs.Common.{ap, ◌∙◌, list_any, Entity, pattern_matches, Record, living, type_of_record}
 use Rattle.eco_ids.specs.declared.pattern.Pattern.{Pattern}
-use Rattle.eco_ids.specs.Matching.{pattern_matches}
-use Rattle.eco_ids.specs.World.{Record, living}
-use Rattle.eco_traits.specs.Target.{type_of_record}
 use Rattle.eco_world.proofs.Asking.{held_is}
 use Rattle.eco_world.proofs.world.World.is_had.Goals as goal
 

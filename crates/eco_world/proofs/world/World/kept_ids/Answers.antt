@@ -1,8 +1,5 @@
-use Rattle.std.proofs.Common.{◌≡◌, [], not, filter, take, length, ap, ◌∙◌, arith}
+use Rattle.eco_world.proofs.Common.{◌≡◌, [], not, filter, take, length, ap, ◌∙◌, arith, goes_too, all_staying, with_staying, takes}
 use Rattle.std.proofs.Math.Seq.{take-length}
-use Rattle.eco_ids.specs.Mirrors.{goes_too}
-use Rattle.eco_ids.proofs.Sparing.{all_staying, with_staying}
-use Rattle.eco_world.specs.Losses.{takes}
 use Rattle.eco_world.proofs.world.World.kept_ids.Goals as goal
 
 pub returns : goal.returns

@@ -1,7 +1,4 @@
-use Rattle.std.proofs.Common.{◌≡◌, [], take}
-use Rattle.eco_ids.specs.Mirrors.{goes_too}
-use Rattle.eco_ids.proofs.Sparing.{with_staying}
-use Rattle.eco_world.specs.Losses.{takes}
+use Rattle.eco_world.proofs.Common.{◌≡◌, [], take, goes_too, with_staying, takes}
 use Rattle.eco_world.proofs.world.World.kept_ids.Given as goal
 
 abbrev pub invariant-loop-id : goal.invariant-loop-id

@@ -1,9 +1,7 @@
-use Rattle.std.proofs.Common.{◌++◌, ◌∷◌, [], ◌<◌, length, sym, ap, ◌∙◌, subst, append_assoc}
-use Rattle.eco_ids.specs.declared.entity.Entity.{Entity}
-use Rattle.eco_ids.specs.World.{Record, entities}
+use Rattle.eco_world.proofs.Common.{◌++◌, ◌∷◌, [], ◌<◌, length, sym, ap, ◌∙◌, subst, append_assoc, Entity, Record, entities}
 use Rattle.eco_world.proofs.Walk.{walk_some, walk_none}
-use Rattle.eco_world.proofs.world.World.living.Goals as goal
 use Rattle.eco_world.proofs.world.World.living.Goals.{in-Some+in_ok-push, in_default}
+use Rattle.eco_world.proofs.world.World.living.Goals as goal
 
 pub loop-index-preserved : goal.loop-index-preserved
 loop-index-preserved c =

@@ -1,6 +1,4 @@
-use Rattle.std.proofs.Common.{◌≡◌, ◌++◌, ◌∷◌, [], drop}
-use Rattle.eco_ids.specs.declared.entity.Entity.{Entity}
-use Rattle.eco_ids.specs.World.{Record}
+use Rattle.eco_world.proofs.Common.{◌≡◌, ◌++◌, ◌∷◌, [], drop, Entity, Record}
 use Rattle.eco_world.proofs.Walk.{walk}
 use Rattle.eco_world.proofs.world.World.living.Given as goal
 

@@ -1,9 +1,4 @@
-use Rattle.std.proofs.Common.{ap, ◌∙◌}
-use Rattle.eco_ids.specs.Lawful.{IsLawful}
-use Rattle.eco_ids.specs.Mirrors.{goes_too}
-use Rattle.eco_world.specs.Losses.{takes}
-use Rattle.eco_world.specs.Worlds.{asked_by, world_with}
-use Rattle.eco_ids.proofs.Results.{on_ok}
+use Rattle.eco_world.proofs.Common.{ap, ◌∙◌, IsLawful, goes_too, takes, asked_by, world_with, on_ok}
 use Rattle.eco_world.proofs.Changes.{by_result}
 use Rattle.eco_world.proofs.Mirroring.{lost_all}
 use Rattle.eco_world.proofs.world.World.lose.Goals as goal

@@ -1,7 +1,4 @@
-use Rattle.std.proofs.Common.{None}
-use Rattle.eco_ids.specs.Births.{MakesAlive, MakesAliveWith, bare}
-use Rattle.eco_ids.specs.Indices.{is_free_at}
-use Rattle.eco_world.specs.Worlds.{asked_by}
+use Rattle.eco_world.proofs.Common.{None, MakesAlive, MakesAliveWith, bare, is_free_at, asked_by}
 use Rattle.eco_world.proofs.Steps.{lifted, met_lawful}
 use Rattle.eco_world.proofs.world.World.make_alive.Goals as goal
 

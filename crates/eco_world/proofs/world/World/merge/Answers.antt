@@ -1,4 +1,4 @@
-use Rattle.eco_stages.specs.Merging.{all_commands}
+use Rattle.eco_world.proofs.Common.{all_commands}
 use Rattle.eco_world.proofs.Merging.{merged}
 use Rattle.eco_world.proofs.world.World.merge.Goals as goal
 

@@ -1,6 +1,4 @@
-use Rattle.std.proofs.Common.{◌≡◌, map, take}
-use Rattle.eco_ids.specs.Mirrors.{goes_too}
-use Rattle.eco_world.specs.Losses.{takes}
+use Rattle.eco_world.proofs.Common.{◌≡◌, map, take, goes_too, takes}
 use Rattle.eco_world.proofs.Mirroring.{move_to_kept}
 use Rattle.eco_world.proofs.world.World.moves_to_kept.Given as goal
 

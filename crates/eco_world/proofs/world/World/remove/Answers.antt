@@ -1,7 +1,4 @@
-use Rattle.std.proofs.Common.{[], ◌&&◌, refl, sym, ◌∙◌}
-use Rattle.std.proofs.lemmas.Result.{err_from_is_err_and}
-use Rattle.eco_ids.specs.Order.{entity_eq, id_eq}
-use Rattle.eco_ids.specs.Step.{Loses}
+use Rattle.eco_world.proofs.Common.{[], ◌&&◌, refl, sym, ◌∙◌, err_from_is_err_and, entity_eq, id_eq, Loses}
 use Rattle.eco_world.proofs.Changes.{nothing_taken}
 use Rattle.eco_world.proofs.Losing.{absent_taken}
 use Rattle.eco_world.proofs.Steps.{refused}

@@ -1,6 +1,4 @@
-use Rattle.std.proofs.Common.{Ok, refl, sym, ◌∙◌}
-use Rattle.eco_ids.specs.Order.{id_eq}
-use Rattle.eco_world.specs.Worlds.{asked_by}
+use Rattle.eco_world.proofs.Common.{Ok, refl, sym, ◌∙◌, id_eq, asked_by}
 use Rattle.eco_world.proofs.Asking.{none_has}
 use Rattle.eco_world.proofs.Losing.{nowhere_taken}
 use Rattle.eco_world.proofs.Removals.{nobody_loses, removed_all, taken_lawful}

@@ -1,13 +1,6 @@
-use Rattle.std.proofs.Common.{◌≡◌, ◌∷◌, [], ◌++◌, IsTrue, ap, sym, ◌∙◌, subst}
-use Rattle.eco_ids.specs.declared.entity.Entity.{Entity}
-use Rattle.eco_ids.specs.Mirrors.{goes_too}
-use Rattle.eco_ids.specs.Order.{entity_cmp, has_item}
-use Rattle.eco_ids.specs.World.{WorldState}
-use Rattle.eco_store.specs.Holders.{entities_with}
+use Rattle.eco_world.proofs.Common.{◌≡◌, ◌∷◌, [], ◌++◌, IsTrue, ap, sym, ◌∙◌, subst, Entity, goes_too, entity_cmp, has_item, WorldState}
+use Rattle.eco_world.proofs.Common.{entities_with, one_by_one, takes, holders, asked_by, world_with}
 use Rattle.eco_world.specs.declared.loss.Loss.TheVariants.{Everywhere}
-use Rattle.eco_world.specs.Losses.{one_by_one, takes}
-use Rattle.eco_world.specs.Queries.{holders}
-use Rattle.eco_world.specs.Worlds.{asked_by, world_with}
 use Rattle.eco_world.proofs.Deleting.{holders_have}
 use Rattle.eco_world.proofs.Holders.{found_holders}
 use Rattle.eco_world.proofs.Losing.{taken_everywhere}

@@ -1,14 +1,7 @@
-use Rattle.std.proofs.Common.{Bool, ap, ◌∙◌, sym, subst}
-use Rattle.std.proofs.lemmas.Result.{err_from_is_err_and}
-use Rattle.std.specs.Option.{option_copied}
-use Rattle.eco_ids.specs.Builtin.{is_builtin}
-use Rattle.eco_ids.specs.Outcome.{Meets}
+use Rattle.eco_world.proofs.Common.{Bool, ap, ◌∙◌, sym, subst, err_from_is_err_and, option_copied, is_builtin, Meets, Renames, with_name, WorldState}
+use Rattle.eco_world.proofs.Common.{record_name, asked_by, world_with}
 use Rattle.eco_ids.specs.Renaming.{RenamesWith, may_rename}
-use Rattle.eco_ids.specs.Step.{Renames, with_name}
-use Rattle.eco_ids.specs.World.{WorldState}
-use Rattle.eco_store.specs.Store.{record_name}
 use Rattle.eco_world.proofs.Steps.{lifted, met_lawful, rename_refused}
-use Rattle.eco_world.specs.Worlds.{asked_by, world_with}
 use Rattle.eco_world.proofs.world.World.rename.Goals as goal
 
 pub returns-in_err-check_actor : goal.returns-in_err-check_actor

@@ -1,10 +1,5 @@
-use Rattle.std.proofs.Common.{◌∷◌, [], ap, ◌∙◌}
-use Rattle.eco_ids.specs.Lawful.{IsLawful}
+use Rattle.eco_world.proofs.Common.{◌∷◌, [], ap, ◌∙◌, IsLawful, type_meant, type_of, asked_by, world_with, on_ok}
 use Rattle.eco_store.specs.declared.moving.Move.{Move}
-use Rattle.eco_traits.specs.Target.{type_meant}
-use Rattle.eco_world.specs.Types.{type_of}
-use Rattle.eco_world.specs.Worlds.{asked_by, world_with}
-use Rattle.eco_ids.proofs.Results.{on_ok}
 use Rattle.eco_world.proofs.Changes.{by_result}
 use Rattle.eco_world.proofs.Mirroring.{both_moved, apart}
 use Rattle.eco_world.proofs.world.World.retype_both.Goals as goal

@@ -1,7 +1,4 @@
-use Rattle.std.proofs.Common.{sym, ap, ◌∙◌, subst}
-use Rattle.eco_ids.specs.Lawful.{IsLawful}
-use Rattle.eco_world.specs.Builtins.{first_entities}
-use Rattle.eco_world.specs.Worlds.{asked_by, world_with}
+use Rattle.eco_world.proofs.Common.{sym, ap, ◌∙◌, subst, IsLawful, first_entities, asked_by, world_with}
 use Rattle.eco_world.proofs.Starting.{all_builtins}
 use Rattle.eco_world.proofs.world.World.seeded.Goals as goal
 

@@ -1,10 +1,8 @@
-use Rattle.std.proofs.Common.{◌≡◌, sym, ◌∙◌, Ok, Err, MatchBool, subst}
-use Rattle.std.proofs.lemmas.Result.{err_from_is_err_and}
-use Rattle.eco_ids.specs.Step.{Sets, changed, with_value}
+use Rattle.eco_world.proofs.Common.{◌≡◌, sym, ◌∙◌, Ok, Err, MatchBool, subst, err_from_is_err_and, Sets, changed, with_value}
 use Rattle.eco_world.proofs.Extending.{IsSetAfter, extended, refused_after, set_after}
 use Rattle.eco_world.proofs.Fitting.{written_fits}
-use Rattle.eco_world.proofs.world.World.set_absent.Goals as goal
 use Rattle.eco_world.proofs.world.World.set_absent.Goals.{In_ok-gain}
+use Rattle.eco_world.proofs.world.World.set_absent.Goals as goal
 
 pub returns-in_err-gain : goal.returns-in_err-gain
 returns-in_err-gain c =

@@ -1,9 +1,4 @@
-use Rattle.std.proofs.Common.{sym, ap, ◌∙◌, subst, IfSome}
-use Rattle.eco_ids.specs.Outcome.{Meets}
-use Rattle.eco_ids.specs.Step.{Sets, may_set}
-use Rattle.eco_ids.specs.World.{has}
-use Rattle.eco_world.specs.Actor.{MaySet}
-use Rattle.eco_world.specs.Setting.{IsSettable}
+use Rattle.eco_world.proofs.Common.{sym, ap, ◌∙◌, subst, IfSome, Meets, Sets, may_set, has, MaySet, IsSettable}
 use Rattle.eco_world.proofs.Extending.{lawful_there}
 use Rattle.eco_world.proofs.Setting.{known_still}
 use Rattle.eco_world.proofs.world.World.set_after.Goals as goal

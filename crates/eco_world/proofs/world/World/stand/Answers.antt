@@ -1,6 +1,4 @@
-use Rattle.std.proofs.Common.{◌≡◌, None}
-use Rattle.eco_ids.specs.World.{record_of}
-use Rattle.eco_world.specs.Worlds.{asked_by, world_with}
+use Rattle.eco_world.proofs.Common.{◌≡◌, None, record_of, asked_by, world_with}
 use Rattle.eco_world.proofs.Data.{stands_in}
 use Rattle.eco_world.proofs.world.World.stand.Goals as goal
 

@@ -1,8 +1,4 @@
-use Rattle.std.proofs.Common.{ap, subst, sym}
-use Rattle.eco_ids.specs.Lawful.{IsLawful}
-use Rattle.eco_ids.specs.Step.{changed}
-use Rattle.eco_store.specs.Store.{stepped, with_toggled}
-use Rattle.eco_world.specs.Worlds.{asked_by, world_with}
+use Rattle.eco_world.proofs.Common.{ap, subst, sym, IsLawful, changed, stepped, with_toggled, asked_by, world_with}
 use Rattle.eco_world.proofs.Changes.{by_result}
 use Rattle.eco_world.proofs.world.World.step_both.Goals as goal
 

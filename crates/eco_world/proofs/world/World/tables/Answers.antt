@@ -1,12 +1,6 @@
-use Rattle.std.proofs.Common.{rules, ◌≡◌, true, nat_lt, length, Some, [], ◌∷◌, ◌++◌, ◌∙◌, map, sym, ap, subst, append-nil, Contains}
-use Rattle.std.proofs.Common.{List, append_assoc, arith, cond}
-use Rattle.std.specs.List.{IsDistinct}
-use Rattle.std.specs.Slice.Iter.{iter_rest}
-use Rattle.std.proofs.lemmas.Bool.Decides.{nat_tests}
-use Rattle.std.proofs.lemmas.List.{map-append}
-use Rattle.std.proofs.lemmas.List.Sorted.{IsPermutation-map}
-use Rattle.eco_world.specs.Worlds.{asked_by, world_with}
-use Rattle.eco_world.specs.Layouts.{lent, lent_of, listed, listed_of, shown_of}
+use Rattle.eco_world.proofs.Common.{rules, ◌≡◌, true, nat_lt, length, Some, [], ◌∷◌, ◌++◌, ◌∙◌, map, sym, ap, subst, append-nil, Contains}
+use Rattle.eco_world.proofs.Common.{List, append_assoc, arith, cond, IsDistinct, iter_rest, nat_tests, map-append, IsPermutation-map, asked_by, world_with}
+use Rattle.eco_world.proofs.Common.{lent, lent_of, listed, listed_of, shown_of}
 use Rattle.eco_world.proofs.Lending.{all_lend, lent_rows, with_rows_in_slots}
 use Rattle.eco_world.proofs.Tabled.{all_covered, kinds_differ, none_left, with_rows}
 use Rattle.eco_world.proofs.Layouts.{covers_moved, layout_of, same_type, sorted_tables, Covers}

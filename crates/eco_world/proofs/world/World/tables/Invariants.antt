@@ -1,7 +1,4 @@
-use Rattle.std.proofs.Common.{◌≡◌, ◌++◌, map}
-use Rattle.std.specs.Slice.Iter.{iter_rest}
-use Rattle.std.specs.List.{All}
-use Rattle.eco_world.specs.Layouts.{IsWhole, lent, listed}
+use Rattle.eco_world.proofs.Common.{◌≡◌, ◌++◌, map, iter_rest, All, IsWhole, lent, listed}
 use Rattle.eco_world.proofs.Lending.{lent_rows}
 use Rattle.eco_world.proofs.Tabled.{with_rows}
 use Rattle.eco_world.proofs.world.World.tables.Given as goal

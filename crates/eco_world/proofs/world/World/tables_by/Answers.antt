@@ -1,12 +1,9 @@
-use Rattle.std.proofs.Common.{◌≡◌, ◌∙◌, map, sym, ap, subst, All, Contains}
-use Rattle.std.specs.List.{IsDistinct}
+use Rattle.eco_world.proofs.Common.{◌≡◌, ◌∙◌, map, sym, ap, subst, Contains, IsDistinct, Contains-permutation, IsPermutation-map, IsPermutation-sym}
+use Rattle.eco_world.proofs.Common.{asked_by, world_with, HasTable, lent, lent_at, listed, listed_of, shown_at, err_says}
+use Rattle.std.proofs.Common.{All}
 use Rattle.std.proofs.lemmas.Simd.{map-map}
-use Rattle.std.proofs.lemmas.List.Sorted.{Contains-permutation, IsPermutation-map, IsPermutation-sym}
-use Rattle.eco_world.specs.Worlds.{asked_by, world_with}
-use Rattle.eco_world.specs.Layouts.{HasTable, lent, lent_at, listed, listed_of, shown_at}
 use Rattle.eco_world.proofs.Lending.{all_lend, in_slots}
 use Rattle.eco_world.proofs.Tabled.{all_covered, found_covered, found_differ, found_match, found_some, found_there}
-use Rattle.eco_ids.proofs.Results.{err_says}
 use Rattle.eco_world.proofs.Layouts.{covers_moved, layout_around, same_type, sorted_tables, Covers}
 use Rattle.eco_world.proofs.world.World.tables_by.Goals as goal
 

@@ -1,5 +1,4 @@
-use Rattle.std.proofs.lemmas.Result.{err_from_is_err_and}
-use Rattle.eco_world.specs.Layouts.{listed}
+use Rattle.eco_world.proofs.Common.{err_from_is_err_and, listed}
 use Rattle.eco_world.proofs.Cached.{listed_for, refused_for}
 use Rattle.eco_world.proofs.world.World.tables_of_query.Goals as goal
 

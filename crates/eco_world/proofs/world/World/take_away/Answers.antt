@@ -1,9 +1,6 @@
-use Rattle.std.proofs.Common.{Ok, refl, sym, ◌∙◌, subst}
-use Rattle.eco_ids.specs.Lawful.{IsLawful}
-use Rattle.eco_world.specs.Losses.{takes_id}
+use Rattle.eco_world.proofs.Common.{Ok, refl, sym, ◌∙◌, subst, IsLawful, takes_id, on_ok}
 use Rattle.eco_world.proofs.Changes.{toggled_out, typed_without}
 use Rattle.eco_world.proofs.Extending.{loses}
-use Rattle.eco_ids.proofs.Results.{on_ok}
 use Rattle.eco_world.proofs.Losing.{alone_taken}
 use Rattle.eco_world.proofs.Mirroring.{another, lone}
 use Rattle.eco_world.proofs.MirrorSteps.{go_both, holder_lives}

@@ -1,4 +1,4 @@
-use Rattle.std.proofs.Common.{◌∙◌, None, Some, sym}
+use Rattle.eco_world.proofs.Common.{◌∙◌, None, Some, sym}
 use Rattle.eco_world.proofs.Data.{value_read}
 use Rattle.eco_world.proofs.world.World.value_in.Goals as goal
 

@@ -1,6 +1,4 @@
-use Rattle.std.proofs.Common.{◌∷◌, ap, ◌∙◌}
-use Rattle.std.proofs.lemmas.List.{take_all}
-use Rattle.eco_world.specs.Losses.{mirror_holders}
+use Rattle.eco_world.proofs.Common.{◌∷◌, ap, ◌∙◌, take_all, mirror_holders}
 use Rattle.eco_world.proofs.Losing.{next_holder}
 use Rattle.eco_world.proofs.world.World.with_mirror_holders.Goals as goal
 

@@ -1,5 +1,4 @@
-use Rattle.std.proofs.Common.{◌≡◌, ◌∷◌, take}
-use Rattle.eco_world.specs.Losses.{mirror_holders}
+use Rattle.eco_world.proofs.Common.{◌≡◌, ◌∷◌, take, mirror_holders}
 use Rattle.eco_world.proofs.world.World.with_mirror_holders.Given as goal
 
 abbrev pub invariant-loop-id : goal.invariant-loop-id

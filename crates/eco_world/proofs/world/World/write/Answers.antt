@@ -1,8 +1,4 @@
-use Rattle.std.proofs.Common.{sym, ap, ◌∙◌, subst}
-use Rattle.eco_ids.specs.Lawful.{IsLawful}
-use Rattle.eco_ids.specs.Step.{changed, with_value}
-use Rattle.eco_ids.specs.World.{WorldState, has}
-use Rattle.eco_world.specs.Worlds.{asked_by, world_with}
+use Rattle.eco_world.proofs.Common.{sym, ap, ◌∙◌, subst, IsLawful, changed, with_value, WorldState, has, asked_by, world_with}
 use Rattle.eco_world.proofs.Changes.{written_lawful, written_there}
 use Rattle.eco_world.proofs.Fitting.{fits_stored}
 use Rattle.eco_world.proofs.world.World.write.Goals as goal

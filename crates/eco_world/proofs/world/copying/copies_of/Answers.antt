@@ -1,8 +1,5 @@
-use Rattle.std.proofs.Common.{◌++◌, ◌∷◌, [], take, sym, ap, ◌∙◌}
-use Rattle.std.proofs.lemmas.List.{map_more, map_push, take_all}
-use Rattle.eco_answers.specs.Answers.{asked}
+use Rattle.eco_world.proofs.Common.{◌++◌, ◌∷◌, [], take, sym, ap, ◌∙◌, map_more, map_push, take_all, asked, asked_by}
 use Rattle.eco_world.specs.declared.kept_query.KeptQuery.{KeptQuery}
-use Rattle.eco_world.specs.Worlds.{asked_by}
 use Rattle.eco_world.proofs.world.copying.copies_of.Goals as goal
 
 pub loop-kept-preserved : goal.loop-kept-preserved

@@ -1,5 +1,4 @@
-use Rattle.std.proofs.Common.{◌≡◌, take}
-use Rattle.eco_world.specs.Worlds.{asked_by}
+use Rattle.eco_world.proofs.Common.{◌≡◌, take, asked_by}
 use Rattle.eco_world.proofs.world.copying.copies_of.Given as goal
 
 -- the queries so far are copied

@@ -1,9 +1,5 @@
-use Rattle.std.proofs.Common.{◌≡◌, ℕ, ◌+◌, get_or}
-use Rattle.std.specs.Cmp.Lexicographic.{slice_cmp}
-use Rattle.std.specs.List.Sorted.{IsSortedWithin}
+use Rattle.eco_world.proofs.Common.{◌≡◌, ℕ, ◌+◌, get_or, slice_cmp, IsSortedWithin, id_cmp, TableRows}
 use Rattle.std.specs.Ordering.{is_lt}
-use Rattle.eco_ids.specs.Order.{id_cmp}
-use Rattle.eco_world.specs.declared.table_rows.TableRows.{TableRows}
 use Rattle.eco_world.proofs.world.layout.is_by_type.Given as goal
 
 abbrev pub invariant-loop-table : goal.invariant-loop-table

@@ -1,6 +1,4 @@
-use Rattle.std.proofs.Common.{rules}
-use Rattle.std.proofs.lemmas.List.Sorted.{answers_always}
-use Rattle.eco_world.specs.declared.table_rows.TableRows.{TableRows}
+use Rattle.eco_world.proofs.Common.{rules, answers_always, TableRows}
 use Rattle.eco_world.proofs.world.layout.sort_by_type.Goals as goal
 
 pub returns-then-not-is_by_type-clause-ordered : goal.returns-then-not-is_by_type-clause-ordered

@@ -1,7 +1,6 @@
-use Rattle.std.proofs.Common.{[], ◌∷◌, ◌++◌, ◌∙◌, All, ap, get_or, map, subst, sym, take}
-use Rattle.std.proofs.lemmas.List.{map-append, take_more}
-use Rattle.std.proofs.lemmas.List.Elements.{All-push}
-use Rattle.eco_world.specs.Layouts.{IsWhole, lent, lent_at}
+use Rattle.eco_world.proofs.Common.{[], ◌∷◌, ◌++◌, ◌∙◌, ap, get_or, map, subst, sym, take, map-append, take_more, All-push, IsWhole, lent}
+use Rattle.eco_world.proofs.Common.{lent_at}
+use Rattle.std.proofs.Common.{All}
 use Rattle.eco_world.proofs.world.layout.tables_in.Goals as goal
 
 pub loop-slot-preserved : goal.loop-slot-preserved

@@ -1,6 +1,4 @@
-use Rattle.std.proofs.Common.{◌≡◌, map, take}
-use Rattle.std.specs.List.{All}
-use Rattle.eco_world.specs.Layouts.{IsWhole, lent, lent_at}
+use Rattle.eco_world.proofs.Common.{◌≡◌, map, take, All, IsWhole, lent, lent_at}
 use Rattle.eco_world.proofs.world.layout.tables_in.Given as goal
 
 abbrev pub invariant-loop-slot : goal.invariant-loop-slot

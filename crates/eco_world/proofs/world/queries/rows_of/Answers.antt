@@ -1,8 +1,6 @@
-use Rattle.std.proofs.Common.{rules, ◌≡◌, ◌++◌, ◌∷◌, [], Some, map, take, sym, ap, ◌∙◌}
+use Rattle.eco_world.proofs.Common.{rules, ◌≡◌, ◌++◌, ◌∷◌, [], Some, map, take, sym, ap, ◌∙◌, map_push, take_more, get_or_from_slice_get}
+use Rattle.eco_world.proofs.Common.{slice_get_within, result_of}
 use Rattle.std.specs.List.{slice_get}
-use Rattle.std.proofs.lemmas.List.{map_push, take_more}
-use Rattle.std.proofs.lemmas.Option.{get_or_from_slice_get, slice_get_within}
-use Rattle.eco_world.specs.Queries.{result_of}
 use Rattle.eco_world.proofs.world.queries.rows_of.Goals as goal
 
 pub loop-place-preserved : goal.loop-place-preserved

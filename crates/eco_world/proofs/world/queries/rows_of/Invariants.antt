@@ -1,5 +1,4 @@
-use Rattle.std.proofs.Common.{◌≡◌, map, take}
-use Rattle.eco_world.specs.Queries.{result_of}
+use Rattle.eco_world.proofs.Common.{◌≡◌, map, take, result_of}
 use Rattle.eco_world.proofs.world.queries.rows_of.Given as goal
 
 -- the results so far

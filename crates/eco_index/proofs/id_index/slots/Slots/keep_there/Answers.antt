@@ -1,7 +1,5 @@
-use Rattle.std.proofs.Common.{rules, length, ap, sym, ◌∙◌, ◌&&◌, ◌≡◌, nat_eq}
-use Rattle.std.specs.List.{list_any}
+use Rattle.eco_index.proofs.Common.{rules, length, ap, sym, ◌∙◌, ◌&&◌, ◌≡◌, nat_eq, list_any, slots_of}
 use Rattle.std.proofs.lemmas.Fn.{filter_same}
-use Rattle.eco_index.specs.IdIndex.{slots_of}
 use Rattle.eco_index.proofs.Sweeping.{left_any}
 use Rattle.eco_index.proofs.id_index.slots.Slots.keep_there.Goals as goal
 

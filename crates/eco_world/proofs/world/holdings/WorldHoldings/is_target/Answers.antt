@@ -1,7 +1,4 @@
-use Rattle.std.proofs.Common.{IsTrue, ◌↔◌, subst, sym}
-use Rattle.eco_ids.specs.declared.entity.Entity.{Entity}
-use Rattle.eco_ids.specs.declared.id.Id.TheVariants.{Two}
-use Rattle.eco_ids.specs.World.{has}
+use Rattle.eco_world.proofs.Common.{IsTrue, ◌↔◌, subst, sym, Entity, Two, has}
 use Rattle.eco_world.proofs.Asking.{target_is}
 use Rattle.eco_world.proofs.world.holdings.WorldHoldings.is_target.Goals as goal
 

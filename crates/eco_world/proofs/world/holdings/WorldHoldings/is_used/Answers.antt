@@ -1,4 +1,4 @@
-use Rattle.std.proofs.Common.{◌∙◌}
+use Rattle.eco_world.proofs.Common.{◌∙◌}
 use Rattle.eco_world.proofs.Asking.{used_is}
 use Rattle.eco_world.proofs.world.holdings.WorldHoldings.is_used.Goals as goal
 

@@ -1,8 +1,5 @@
-use Rattle.std.proofs.Common.{◌++◌, ◌∷◌, [], take, sym, ap, ◌∙◌}
-use Rattle.std.proofs.lemmas.List.{length-map, length-take-le, map_more}
-use native.Mathlib.Omega.{arith}
+use Rattle.eco_world.proofs.Common.{◌++◌, ◌∷◌, [], take, sym, ap, ◌∙◌, length-map, length-take-le, map_more, arith, command_of, commands_of}
 use Rattle.eco_ids.specs.Run as run
-use Rattle.eco_stages.specs.Commands.{command_of, commands_of}
 use Rattle.eco_world.proofs.world.merging.WorldMergeTarget.apply_sets.Goals as goal
 
 pub loop-count-init : goal.loop-count-init

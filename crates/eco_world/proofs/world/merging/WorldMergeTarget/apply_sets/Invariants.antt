@@ -1,7 +1,4 @@
-use Rattle.std.proofs.Common.{◌-◌, ◌≤◌, length, take, IfSome}
-use Rattle.eco_stages.specs.Commands.{commands_of}
-use Rattle.eco_stages.specs.Merging.{AreDone}
-use Rattle.eco_world.specs.Setting.{IsSettable}
+use Rattle.eco_world.proofs.Common.{◌-◌, ◌≤◌, length, take, IfSome, commands_of, AreDone, IsSettable}
 use Rattle.eco_world.proofs.world.merging.WorldMergeTarget.apply_sets.Given as goal
 
 abbrev pub invariant-loop-count : goal.invariant-loop-count

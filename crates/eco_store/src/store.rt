@@ -14,7 +14,6 @@ ghost use Rattle.eco_store.specs.Store.{Admission, CreatesRecord, RenamesRecord,
 ghost use Rattle.eco_store.specs.Lent.{AreTablesOf, KeepsData};
 
 use crate::layout::Layout;
-use crate::placing::seat;
 use crate::staying::Staying;
 use eco_archetypes::{Archetypes, Seed};
 use eco_entities::laws::needs_never_grow;
@@ -281,12 +280,7 @@ impl Store {
         };
         match self.layout.entities.create_next(entity, name, arity) {
             Ok(created) => {
-                seat(
-                    &mut self.layout.entities,
-                    &mut self.layout.archetypes,
-                    created,
-                    table,
-                );
+                self.layout.seat(created, table);
                 Ok(created)
             }
             Err(refused) => {
@@ -325,12 +319,7 @@ impl Store {
             .room_for(&self.layout.entities, &type_list, 1)?;
         // The handle is free, as was asked above, so that this can't be refused.
         self.layout.entities.make_alive(e)?;
-        seat(
-            &mut self.layout.entities,
-            &mut self.layout.archetypes,
-            e,
-            table,
-        );
+        self.layout.seat(e, table);
         Ok(())
     }
 

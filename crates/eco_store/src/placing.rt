@@ -7,7 +7,7 @@ ghost use Rattle.eco_tables.specs.Tables.{new_row, table_in, with_row, SetsSlot}
 ghost use Rattle.eco_archetypes.specs.Widths.{MeetsNeeds};
 ghost use Rattle.eco_store.specs.Placing.{fixed};
 
-use eco_archetypes::Archetypes;
+use crate::layout::Layout;
 use eco_entities::laws::needs_never_grow;
 use eco_entities::{EntityIndex, Place};
 use eco_ids::{Entity, TableSlot};
@@ -23,21 +23,24 @@ pub fn fix_place(entities: &mut EntityIndex, moved: Option<Entity>, place: Place
     }
 }
 
-/// The entity gets a row at the end of the table in this slot, where its room was taken, and is placed there.
-#[inline(always)]
-pub fn seat(entities: &mut EntityIndex, archetypes: &mut Archetypes, e: Entity, slot: TableSlot)
-    requires alive { IsTrue (is_alive entities.old e) }
-    requires room { 0 < (table_in archetypes.old slot).room }
-    requires fits { length (table_in archetypes.old slot).rows < 4294967295 }
-    ensures placed { entities.new
-        ≡ changed entities.old e (placed (record { table = slot; row = length (table_in archetypes.old slot).rows })) }
-    ensures row { SetsSlot archetypes.old archetypes.new slot
-        (Some (with_row (table_in archetypes.old slot) (new_row e))) }
-    ensures covers { MeetsNeeds (need entities.old) archetypes.old
-        → MeetsNeeds (need entities.new) archetypes.new }
-{
-    needs_never_grow();
-    let row = archetypes.tables().row_count(slot);
-    archetypes.push_row(slot, e);
-    entities.set_place(e, Place { table: slot, row });
+impl Layout {
+    /// The entity gets a row at the end of the table in this slot, where its room was taken, and is placed there.
+    #[inline(always)]
+    pub(crate) fn seat(&mut self, e: Entity, slot: TableSlot)
+        requires alive { IsTrue (is_alive self.old.entities e) }
+        requires room { 0 < (table_in self.old.archetypes slot).room }
+        requires fits { length (table_in self.old.archetypes slot).rows < 4294967295 }
+        ensures placed { self.new.entities ≡ changed self.old.entities e
+            (placed (record { table = slot; row = length (table_in self.old.archetypes slot).rows })) }
+        ensures row { SetsSlot self.old.archetypes self.new.archetypes slot
+            (Some (with_row (table_in self.old.archetypes slot) (new_row e))) }
+        ensures covers { MeetsNeeds (need self.old.entities) self.old.archetypes
+            → MeetsNeeds (need self.new.entities) self.new.archetypes }
+        ensures staying { self.new.staying ≡ self.old.staying }
+    {
+        needs_never_grow();
+        let row = self.archetypes.tables().row_count(slot);
+        self.archetypes.push_row(slot, e);
+        self.entities.set_place(e, Place { table: slot, row });
+    }
 }

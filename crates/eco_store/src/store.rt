@@ -17,7 +17,6 @@ ghost use Rattle.eco_store.specs.Store.{record_with_written, Stands};
 ghost use Rattle.eco_store.specs.Lent.{AreTablesOf, KeepsData};
 
 use crate::layout::Layout;
-use crate::placing::seat;
 use crate::staying::Staying;
 use eco_archetypes::{Archetypes, Seed};
 use eco_entities::laws::needs_never_grow;
@@ -284,12 +283,7 @@ impl Store {
         };
         match self.layout.entities.create_next(entity, name, arity) {
             Ok(created) => {
-                seat(
-                    &mut self.layout.entities,
-                    &mut self.layout.archetypes,
-                    created,
-                    table,
-                );
+                self.layout.seat(created, table);
                 Ok(created)
             }
             Err(refused) => {
@@ -328,12 +322,7 @@ impl Store {
             .room_for(&self.layout.entities, &type_list, 1)?;
         // The handle is free, as was asked above, so that this can't be refused.
         self.layout.entities.make_alive(e)?;
-        seat(
-            &mut self.layout.entities,
-            &mut self.layout.archetypes,
-            e,
-            table,
-        );
+        self.layout.seat(e, table);
         Ok(())
     }
 

@@ -53,7 +53,7 @@ pub invariant_of-self-in-Ok-create_next : goal.invariant_of-self-in-Ok-create_ne
 invariant_of-self-in-Ok-create_next c =
     let l = c.self.inside.layout in
     let s1 = c.room_for.new.self in
-    let s2 = c.seat.new.archetypes in
+    let s2 = c.seat.new.self.archetypes in
     let name = option_copied c.args.name in
     let ids = c.args.type_list.now in
     let e = c.in-Ok-create_next.created in
@@ -61,14 +61,15 @@ invariant_of-self-in-Ok-create_next c =
     let puts = found_puts l s1 s2 at e ids c.room_for.ensures.rows c.in-Ok.ensures.typed refl c.seat.ensures.row in
     record {
       laid =
-          found_laid l s1 s2 at e ids c.room_for.ensures.rows c.in-Ok.ensures.typed refl c.seat.ensures.row c.seat.new.entities
+          rw c.seat.ensures.staying
+          (found_laid l s1 s2 at e ids c.room_for.ensures.rows c.in-Ok.ensures.typed refl c.seat.ensures.row c.seat.new.self.entities
           (still_created l.entities c.create_next.new.self l.archetypes s2 name c.args.arity ids _ refl e c.in-Ok-create_next.ensures at _
           c.seat.ensures.placed c.self.invariant.laid.store puts).0
           (c.seat.ensures.covers
           (called c.needs_never_grow.ensures (Create name c.args.arity) _ c.create_next.new.self _ (c.create_next.result, c.create_next.ensures)
           (c.room_for.ensures.widths c.self.invariant.laid.covers)))
-          (c.in-Ok.ensures.rowless (all_staying l.staying) c.self.invariant.laid.tidy);
-      done = c.self.invariant.done;
+          (c.in-Ok.ensures.rowless (all_staying l.staying) c.self.invariant.laid.tidy));
+      done = rw c.seat.ensures.staying c.self.invariant.done;
     }
 
 pub returns-in-Ok-create_next : goal.returns-in-Ok-create_next
@@ -77,7 +78,7 @@ returns-in-Ok-create_next c = record {
       let l = c.self.inside.layout in
       let view = ap (λ (x : StoreState). x.entities) c.self.view_is in
       let s1 = c.room_for.new.self in
-      let s2 = c.seat.new.archetypes in
+      let s2 = c.seat.new.self.archetypes in
       let ids = c.args.type_list.now in
       let e = c.in-Ok-create_next.created in
       let at : Place = record { table = c.in-Ok.table; row = length (rows_in s1 c.in-Ok.table) } in

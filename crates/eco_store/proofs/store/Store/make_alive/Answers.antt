@@ -28,7 +28,7 @@ pub invariant_of-self-2 : goal.invariant_of-self-2
 invariant_of-self-2 c =
     let l = c.self.inside.layout in
     let s1 = c.room_for.new.self in
-    let s2 = c.seat.new.archetypes in
+    let s2 = c.seat.new.self.archetypes in
     let e = c.args.e in
     let free : is_free_at l.entities e ≡ true = sym c.is_free_at.ensures ∙ c.if-not-is_free_at.false in
     let at : Place = record { table = c.in_ok-table.table; row = length (rows_in s1 c.in_ok-table.table) } in
@@ -36,14 +36,15 @@ invariant_of-self-2 c =
     let puts = found_puts l s1 s2 at e [] c.room_for.ensures.rows typed refl c.seat.ensures.row in
     record {
       laid =
-          found_laid l s1 s2 at e [] c.room_for.ensures.rows typed refl c.seat.ensures.row c.seat.new.entities
+          rw c.seat.ensures.staying
+          (found_laid l s1 s2 at e [] c.room_for.ensures.rows typed refl c.seat.ensures.row c.seat.new.self.entities
           (rw c.seat.ensures.placed
           (births.made_alive_store l.entities _ _ _ e at c.self.invariant.laid.store puts free (rw free at c.make_alive.ensures).1))
           (c.seat.ensures.covers
           (called c.needs_never_grow.ensures (MakeAlive e) _ c.make_alive.new.self _ (c.make_alive.result, c.make_alive.ensures)
           (c.room_for.ensures.widths c.self.invariant.laid.covers)))
-          (c.in_ok-table.ensures.rowless (all_staying l.staying) c.self.invariant.laid.tidy);
-      done = c.self.invariant.done;
+          (c.in_ok-table.ensures.rowless (all_staying l.staying) c.self.invariant.laid.tidy));
+      done = rw c.seat.ensures.staying c.self.invariant.done;
     }
 
 pub returns : goal.returns
@@ -51,7 +52,7 @@ returns c = record {
   step =
       let l = c.self.inside.layout in
       let s1 = c.room_for.new.self in
-      let s2 = c.seat.new.archetypes in
+      let s2 = c.seat.new.self.archetypes in
       let e = c.args.e in
       let free : is_free_at l.entities e ≡ true = sym c.is_free_at.ensures ∙ c.if-not-is_free_at.false in
       let at : Place = record { table = c.in_ok-table.table; row = length (rows_in s1 c.in_ok-table.table) } in

@@ -1,7 +1,7 @@
 -- The three levels of a set of free indices: what each change leaves of them, and of the flags that they show.
 use Rattle.eco_entities.proofs.Common.{rules, common_steps, ◌≡◌, ℕ, zero, suc, ◌+◌, ◌-◌, ◌*◌, ◌/◌, ◌%◌, ◌^◌, ◌<◌, ◌≤◌}
 use Rattle.eco_entities.proofs.Common.{Bool, true, false, List, [], ◌∷◌, ◌++◌, length, get_or, take, replicate, slice_set, refl, sym, ap, ◌∙◌}
-use Rattle.eco_entities.proofs.Common.{inl, inr, min, Some, None, arith, position_from, cases_eq, cases_lt, false≢true, with_bit, without_bit, FillsBits}
+use Rattle.eco_entities.proofs.Common.{◌≢◌, inl, inr, min, Some, None, arith, position_from, cases_eq, cases_lt, false≢true, with_bit, without_bit, FillsBits}
 use Rattle.eco_entities.proofs.Common.{IsLowestBit, Summarizes}
 use Rattle.std.proofs.lemmas.List.{append-nil, take_all, same_lists, length-set, length-append, length-replicate, length-take, get_or-set_same}
 use Rattle.std.proofs.lemmas.List.{get_or-set_other, get_or_append_left, get_or-append_right, get_or-replicate, get_or-take}

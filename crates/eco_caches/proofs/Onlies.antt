@@ -4,7 +4,7 @@ use Rattle.eco_caches.proofs.Common.{nat_eq, List, [], ◌∷◌, ◌++◌, leng
 use Rattle.eco_caches.proofs.Common.{ap, ◌∙◌, arith, subst, if◌then◌else◌, take-append_seam, Id, QuerySlot, slot_view, term_view, asked, asks}
 use Rattle.eco_caches.proofs.Common.{ChoicesState, AreKept, AreOnly, AreThose, ChangesType, KeepsNew, KeepsOnly, LosesOnly, choices_on, fulfils}
 use Rattle.std.specs.Option.{option_map_or}
-use Rattle.std.specs.Prelude.{IfNone, MatchBool, nat_lt}
+use Rattle.std.specs.Prelude.{IfNone, MatchBool, drop, nat_lt, zero}
 use Rattle.indexmap.specs.IndexMap.{swap_remove_by}
 use Rattle.indexmap.specs.IndexSet.{insert_key}
 use Rattle.std.specs.List.{AllByRecursion, list_any, swap_remove, position_or_len, IsDistinct}
@@ -298,3 +298,16 @@ all_kept types terms q slots i c is most wide made = record {
   wide = wide ∙ sym (length-map terms slot_view) ∙ ap length is;
   only = subst (λ ts. AreOnly types ts slots c.all) (asks_asked terms q is) (subst (λ ns. AreOnly types (asks terms) ns c.all) (take_all i slots most) made);
 }
+
+-- where choices are kept for slots, the type of each has just one
+pub kept_alone : (types : ℕ → Option (List Id)) (terms : List Slot) (q : List QuerySlot) (slots : List ℕ) (i d : ℕ) (c : ChoicesState)
+    → map slot_view terms ≡ q → i < length slots → AreKept types q slots c → length (choices_on (asks terms) (types (get_or slots i d))) ≡ 1
+kept_alone types terms q slots i d c is within kept =
+    subst (λ ts. length (choices_on ts (types (get_or slots i d))) ≡ 1) (sym (asks_asked terms q is)) (go slots c.all i kept.only within)
+  where
+    go : (ns : List ℕ) (all : List (List (Option Id))) (i : ℕ) → AreOnly types (asked q) ns all → i < length ns
+        → length (choices_on (asked q) (types (get_or ns i d))) ≡ 1
+    go [] all i only within = absurd (omega (arith, within))
+    go (n ∷ ns) [] i only within = absurd (omega (arith, ap length only))
+    go (n ∷ ns) (e ∷ all) zero only within = ap (λ cs. length (get_or cs 0 [])) only
+    go (n ∷ ns) (e ∷ all) (suc i) only within = go ns all i (ap (drop 1) only) (omega (arith, within))

@@ -1,7 +1,8 @@
 //! Queries that are asked again and again keep the slots of the tables whose types fulfil them.
-ghost use Rattle.std.specs.Prelude.{◌≡◌, ◌&&◌, ℕ, cond, true, filter, IfOk, IfSome, IsTrue, OnOk, OnErr, nat_eq};
+ghost use Rattle.std.specs.Prelude.{◌≡◌, ◌&&◌, ℕ, cond, true, filter, IfNone, IfOk, IfSome, IsTrue, OnOk, OnErr, nat_eq};
 ghost use Rattle.std.specs.List.{list_any, IsDistinct};
 ghost use Rattle.eco_caches.specs.Caching.{fulfils, AreKept, AreThose};
+ghost use Rattle.eco_entries.specs.Flat.{ChoicesState};
 ghost use Rattle.eco_archetypes.specs.Archetypes.{type_at, has_rows, ArePassing};
 
 use crate::archetypes::Archetypes;
@@ -34,7 +35,9 @@ impl Archetypes {
         cache: Option<usize>,
         slots: &[TableSlot],
     ) -> Result<Option<Choices>, AllocError>
-        ensures { IfOk result (λ o. IfSome o (AreKept (type_at self.now) query.now slots.now)) }
+        ensures kept { IfOk result (λ o. IfSome o (AreKept (type_at self.now) query.now slots.now)) }
+        ensures none { IfOk result (λ o. IfNone o ((c : ChoicesState) →
+            AreKept (type_at self.now) query.now slots.now c → ⊥)) }
     {
         if let Some(only) = self.kept_of(query, cache, slots)? {
             return Ok(Some(only));
@@ -124,7 +127,9 @@ fn only_on(
     query: &Query,
     slots: &[TableSlot],
 ) -> Result<Option<Choices>, AllocError>
-    ensures { IfOk result (λ o. IfSome o (AreKept (type_at tables.now) query.now slots.now)) }
+    ensures kept { IfOk result (λ o. IfSome o (AreKept (type_at tables.now) query.now slots.now)) }
+    ensures none { IfOk result (λ o. IfNone o ((c : ChoicesState) →
+        AreKept (type_at tables.now) query.now slots.now c → ⊥)) }
 {
     let terms = query.slots();
     query.is_positive();

@@ -1,7 +1,7 @@
-use Rattle.eco_archetypes.proofs.Common.{[], ◌∷◌, map, ap, sym, ◌∙◌, option_map, TableState, asks, choices_on, type_at}
+use Rattle.eco_archetypes.proofs.Common.{◌≡◌, [], ◌∷◌, length, map, ap, sym, ◌∙◌, arith, subst, option_map, TableState, asks, choices_on, type_at}
 use Rattle.eco_ids.specs.Answer.{choices}
 use Rattle.eco_entries.specs.Flat.{ChoicesState}
-use Rattle.eco_caches.proofs.Onlies.{all_kept, only_more}
+use Rattle.eco_caches.proofs.Onlies.{all_kept, kept_alone, only_more}
 use Rattle.eco_archetypes.proofs.archetypes.caching.only_on.Goals as goal
 
 pub loop-slot-init : goal.loop-slot-init
@@ -24,7 +24,23 @@ loop-slot-preserved c =
           (c.in_ok-push_only.ensures.one c.if-not-branch.false) (ap (λ (s : ChoicesState). s.all) pushed);
     }
 
-pub returns : goal.returns
-returns c =
+pub returns-clause-kept : goal.returns-clause-kept
+returns-clause-kept c =
     all_kept (type_at c.args.tables.now) c.slots-terms.result.now c.args.query.now c.args.slots.now c.loop-slot.slot-index c.loop-slot.only
     c.slots-terms.ensures c.loop-slot-test.false c.loop-slot.invariant.wide c.loop-slot.invariant.made
+
+pub returns-in_default-clause-none : goal.returns-in_default-clause-none
+returns-in_default-clause-none c kept are =
+    let one = kept_alone (type_at c.args.tables.now) c.slots-terms.result.now c.args.query.now c.args.slots.now c.loop-slot.slot-index 0 kept
+    c.slots-terms.ensures c.loop-slot-test.true are in
+    let none = ap (option_map (λ (t : TableState). t.ids)) (sym c.in_default.ensures) in
+    absurd (omega (arith, subst (λ o. length (choices_on (asks c.slots-terms.result.now) o) ≡ 1) none one))
+
+pub returns-then-not-branch-clause-none : goal.returns-then-not-branch-clause-none
+returns-then-not-branch-clause-none c kept are =
+    let terms = asks c.slots-terms.result.now in
+    let one = kept_alone (type_at c.args.tables.now) c.slots-terms.result.now c.args.query.now c.args.slots.now c.loop-slot.slot-index 0 kept
+    c.slots-terms.ensures c.loop-slot-test.true are in
+    c.in_ok-push_only.ensures.several c.if-not-branch.true
+    (ap (λ ids. length (choices ids terms)) c.type_list.ensures.ids
+    ∙ ap (λ o. length (choices_on terms (option_map (λ (t : TableState). t.ids) o))) c.in-Some.ensures ∙ one)

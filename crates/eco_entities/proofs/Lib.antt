@@ -19,4 +19,5 @@ pub mod Seats
 pub mod PageChanges
 pub mod PageLists
 pub mod PageNames
-pub mod Trees
+pub mod Cells
+pub mod Tables

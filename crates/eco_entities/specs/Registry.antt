@@ -4,13 +4,13 @@ use Rattle.std.specs.BTreeMap.{get_by_text}
 use Rattle.eco_ids.specs.declared.entity.Entity.{Entity}
 use Rattle.eco_ids.specs.Names.{is_proper}
 use Rattle.eco_entities.specs.declared.names.Names.{Names}
-use Rattle.eco_entities.specs.declared.short_names.ShortNames.{ShortNames}
+use Rattle.eco_entities.specs.declared.bucket.Bearer.{Bearer}
 use Rattle.eco_entities.specs.Changes.{ChangesAt, KeepsAnswers}
-use Rattle.eco_entities.specs.Keys.{found_among}
+use Rattle.eco_entities.specs.Keys.{found_among, Kept}
 
 -- the entity that is found under a short name
-abbrev pub short_entity_of : ShortNames → List ℕ → Option Entity
-short_entity_of names = found_among names.trees.items
+abbrev pub short_entity_of : List Kept × List Bearer → List ℕ → Option Entity
+short_entity_of names = found_among names
 
 -- the entity that is found under a name
 abbrev pub entity_of : Names → List ℕ → Option Entity

@@ -1,6 +1,6 @@
 //! The keys of short names.
-ghost use Rattle.std.specs.Prelude.{◌≡◌, ◌%◌};
-ghost use Rattle.eco_entities.specs.Keys.{hash_of};
+ghost use Rattle.std.specs.Prelude.{◌≡◌, ◌<◌};
+ghost use Rattle.eco_entities.specs.Keys.{bucket_of, hash_of, tag_of};
 
 use crate::label::Short;
 use std::hash::{FoldHasher, Hasher};
@@ -13,8 +13,15 @@ pub(crate) struct Key {
     text: Short,
 }
 
-// How many trees there are for keys.
-const TREES: usize = 128;
+// Stands where there is no key.
+impl Default for Key {
+    fn default() -> Key {
+        Key {
+            hash: 0,
+            text: Short::new(),
+        }
+    }
+}
 
 impl Key {
     #[inline]
@@ -30,11 +37,21 @@ impl Key {
         }
     }
 
-    /// The tree that the key is in.
+    /// The upper half of the hash.
     #[inline]
-    pub(crate) fn tree(&self) -> usize
-        ensures { result ≡ self.now.hash % 128 }
+    pub(crate) fn tag(&self) -> u32
+        ensures { result ≡ tag_of self.now.hash }
     {
-        (self.hash % TREES as u64) as usize
+        (self.hash >> 32) as u32
+    }
+
+    /// The bucket that the key picks, of so many: a power of two, so that each is picked.
+    #[inline]
+    pub(crate) fn bucket(&self, count: usize) -> usize
+        requires { 0 < count }
+        ensures value { result ≡ bucket_of self.now.hash count }
+        ensures within { result < count }
+    {
+        self.hash as usize & (count - 1)
     }
 }

@@ -1,6 +1,7 @@
 //! The entity index: handles that are never confused, and the names, arities and places of the living.
 #![tactic(auto)]
 
+mod bucket;
 mod entity_index;
 mod free_set;
 mod homes;

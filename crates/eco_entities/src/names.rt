@@ -7,8 +7,8 @@ use eco_ids::Entity;
 use std::alloc::{AllocError, Global};
 use std::collections::BTreeMap;
 
-/// All are in ordered trees, so that no choice of names makes a look-up slow, as it would where the names of a hash map
-/// collide.
+/// No choice of names makes a look-up slow, as it would where the names of a hash map collide: the long ones are in an ordered
+/// tree, and so are the short ones that collide.
 pub(crate) struct Names {
     short: ShortNames,
     long: BTreeMap<String, Entity>,

@@ -1,23 +1,39 @@
-use Rattle.eco_entities.proofs.Common.{◌≡◌, ◌%◌, length, slice_get, refl, ap, ◌∙◌, Some, None, arith, slice_get_read}
-use Rattle.eco_entities.proofs.Trees.{changes_tree, tree_changed, treeless}
+use Rattle.eco_entities.proofs.Common.{[], length, set, sym, ap, subst, ◌∙◌, None, found_among, found_in, AllPoint, ChangesAt}
+use Rattle.eco_entities.proofs.Cells.{own_key}
+use Rattle.eco_entities.proofs.Tables.{among_loses, nil_right, place_is, table_loses, read_bucket}
 use Rattle.eco_entities.proofs.short_names.ShortNames.remove.Goals as goal
 
-pub returns-then-place-len : goal.returns-then-place-len
-returns-then-place-len c =
-    let trees = c.args.self.now.trees.items in
-    let bs = c.args.name.bytes in
-    let key = c.new-key.result in
-    let n = c.tree-place.result in
+pub invariant_of-self : goal.invariant_of-self
+invariant_of-self c =
+    let buckets = c.self.inside.buckets.items in
+    let bearers = c.self.inside.bearers.items in
+    let n = c.bucket-place.result in
     let old = c.index_mut.result.now in
-    let there : slice_get trees n ≡ Some old =
-    slice_get_read trees (length trees) n old refl (omega (arith, c.if-place-len.true, c.len.ensures)) c.index_mut.ensures.value in
-    tree_changed trees bs n old c.remove.new.self None (c.tree-place.ensures ∙ ap (λ h. h % 128) c.new-key.ensures.hash) there
-    (changes_tree key.hash key.text.bytes bs c.new-key.ensures.hash
-    (ap (λ t. t.bytes) c.new-key.ensures.text) old c.remove.new.self None c.remove.ensures.updates)
+    let new = c.remove.new.self in
+    let counted = c.len.ensures ∙ c.self.inside.buckets.ok.0 in
+    let there = read_bucket buckets n c.len.result old c.bucket-place.ensures.within counted c.index_mut.ensures.value in
+    table_loses buckets bearers bearers [] n old new c.self.invariant there (nil_right bearers)
+    (subst (λ bs. AllPoint bs new) c.as_slice.ensures.value c.remove.ensures.point) c.new-key.result
+    (λ text own. ap (λ bs. found_in bs new text) (sym c.as_slice.ensures.value) ∙ c.remove.ensures.here text own)
+    (λ text other. ap (λ bs. found_in bs new text) (sym c.as_slice.ensures.value) ∙ (c.remove.ensures.others text other
+    ∙ ap (λ bs. found_in bs old text) c.as_slice.ensures.value))
 
-pub returns-else-place-len : goal.returns-else-place-len
-returns-else-place-len c = record {
-  here = treeless c.args.self.now.trees.items c.args.name.bytes c.tree-place.result (c.tree-place.ensures ∙ ap (λ h. h % 128) c.new-key.ensures.hash)
-      (omega (arith, c.if-place-len.false, c.len.ensures));
-  others = λ j apart. refl;
-}
+pub returns : goal.returns
+returns c =
+    let buckets = c.self.inside.buckets.items in
+    let bearers = c.self.inside.bearers.items in
+    let text = c.args.name.bytes in
+    let key = c.new-key.result in
+    let n = c.bucket-place.result in
+    let old = c.index_mut.result.now in
+    let new = c.remove.new.self in
+    let counted = c.len.ensures ∙ c.self.inside.buckets.ok.0 in
+    let there = read_bucket buckets n c.len.result old c.bucket-place.ensures.within counted c.index_mut.ensures.value in
+    subst (λ t. ChangesAt (found_among t) (found_among (set buckets n new, bearers)) text None) c.self.view_is
+    (among_loses buckets bearers bearers [] n old new c.self.invariant there (nil_right bearers)
+    (subst (λ bs. AllPoint bs new) c.as_slice.ensures.value c.remove.ensures.point) key
+    (λ text own. ap (λ bs. found_in bs new text) (sym c.as_slice.ensures.value) ∙ c.remove.ensures.here text own)
+    (λ text other. ap (λ bs. found_in bs new text) (sym c.as_slice.ensures.value) ∙ (c.remove.ensures.others text other
+    ∙ ap (λ bs. found_in bs old text) c.as_slice.ensures.value)) text
+    (place_is key.hash text n c.len.result (length buckets) c.bucket-place.ensures.value c.new-key.ensures.hash counted)
+    (own_key text key c.new-key.ensures.hash (ap (λ t. t.bytes) c.new-key.ensures.text)))

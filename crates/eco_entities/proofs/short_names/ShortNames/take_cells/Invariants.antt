@@ -1,0 +1,10 @@
+use Rattle.eco_entities.proofs.Common.{◌≡◌, ℕ, List, drop, length, found_among, found_by, option_or}
+use Rattle.eco_entities.proofs.short_names.ShortNames.take_cells.Given as goal
+
+-- those who were found, and those whom the cells that are left lead to, are all
+abbrev pub invariant-loop-cell : goal.invariant-loop-cell
+invariant-loop-cell l = record {
+  count : length l.self.0 ≡ length l.fn.self.0;
+  rest : (text : List ℕ) → option_or (found_among l.self text) (found_by l.bearers (drop l.cell-index l.cells) text)
+      ≡ option_or (found_among l.fn.self text) (found_by l.bearers l.cells text);
+}

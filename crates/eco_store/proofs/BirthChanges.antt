@@ -186,7 +186,8 @@ admit_lifts w w1 s n some r h = by (is_out_of_memory r) h
     ends false q = (λ store. subst (λ v. IsStore v s) (sym q.1) store, (q.0, ap (λ v. read v s) q.1))
 
     by : (b : Bool) → MatchBool b (IsTrue (may_admit w n && some) × (w1 ≡ w)) (Admits w n r w1)
-        → (IsStore w s → IsStore w1 s) × MatchBool b (IsTrue (may_admit (read w s) n && some) × (read w1 s ≡ read w s)) (Admits (read w s) n r (read w1 s))
+        → (IsStore w s → IsStore w1 s)
+        × MatchBool b (IsTrue (may_admit (read w s) n && some) × (read w1 s ≡ read w s)) (Admits (read w s) n r (read w1 s))
     by true q = (λ store. subst (λ v. IsStore v s) (sym q.1) store, (ap (λ b. b && some) fits ∙ q.0, ap (λ v. read v s) q.1))
     by false q =
         let e = ends (nat_le (length w.indices + n) w.limit) q in

@@ -1,9 +1,10 @@
 -- Room for the entities that come, and what each of their moves leaves of it.
-use Rattle.eco_store.proofs.Common.{◌≡◌, ◌≢◌, ℕ, ◌+◌, ◌-◌, ◌≤◌, ◌<◌, Bool, true, false, true≢false, IsTrue}
+use Rattle.eco_store.proofs.Common.{◌≡◌, ◌≢◌, ℕ, ◌+◌, ◌-◌, ◌≤◌, ◌<◌, Bool, true, false, true≢false, IsTrue, All-nil}
+use Rattle.eco_store.proofs.Common.{All-push, AreMovesReady, KeepsRoomIn, SameTypes}
 use Rattle.eco_store.proofs.Common.{if◌then◌else◌, List, [], ◌∷◌, ◌++◌, map, length, get_or, slice_get, drop, Option, Some, None, is_some}
 use Rattle.eco_store.proofs.Common.{option_map, unwrap_or, IsSome, nat_eq, refl, sym, ap, ◌∙◌, arith, All, list_any, length-map, map-append}
 use Rattle.eco_store.proofs.Common.{get_or_default, All-head, All-tail, same_Some, Entity, Id, changed, change_kept, Indexed, is_alive, record_of, not_equal}
-use Rattle.eco_store.proofs.Common.{TableState, slot_of, table_in, no_table, Moves, SetsSlot, type_at, KeepsTypes, moves_types, there_as_typed, Move, arriving}
+use Rattle.eco_store.proofs.Common.{TableState, slot_of, table_in, no_table, Moves, SetsSlot, type_at, KeepsTypes, moves_types, Move, arriving}
 use Rattle.eco_store.proofs.Common.{AdmitsRow, AreTyped, HasRoomFor, SameIn}
 use Rattle.std.proofs.Math.ListN.{get_or-map}
 use Rattle.eco_store.proofs.RowChanges.{is_equal}
@@ -25,14 +26,7 @@ typed_at s ms ns i d e typed within =
 pub as_many : (s : List (Option TableState)) (ms : List Move) (ns : List ℕ) → AreTyped s ms ns → length ns ≡ length ms
 as_many s ms ns typed = sym (length-map ns (type_at s)) ∙ ap length typed ∙ length-map ms wanted
 
-pub none_typed : (s : List (Option TableState)) (ms : List Move) (ns : List ℕ) → AreTyped s ms ns → ms ≡ [] → ns ≡ []
-none_typed s ms [] typed none = refl
-none_typed s ms (n ∷ ns) typed none =
-    let many = as_many s ms (n ∷ ns) typed in
-    let empty = ap length none in
-    absurd (omega (arith, many, empty))
-
-pub typed_more : (s : List (Option TableState)) (ms : List Move) (ns : List ℕ) (m : Move) (n : ℕ) → AreTyped s ms ns → type_at s n ≡ Some m.type_list
+typed_more : (s : List (Option TableState)) (ms : List Move) (ns : List ℕ) (m : Move) (n : ℕ) → AreTyped s ms ns → type_at s n ≡ Some m.type_list
     → AreTyped s (ms ++ m ∷ []) (ns ++ n ∷ [])
 typed_more s ms ns m n typed is =
     map-append (type_at s) ns (n ∷ []) ∙ (λ t. typed t ++ is t ∷ []) ∙ sym (map-append wanted ms (m ∷ []))
@@ -50,7 +44,7 @@ typed_alike s s' ms ns same typed = alike ns same ∙ typed
         λ t. here t ∷ rest t
 
 -- no table goes
-pub typed_kept : (s s' : List (Option TableState)) (ms : List Move) (ns : List ℕ) → KeepsTypes s s' → AreTyped s ms ns → AreTyped s' ms ns
+typed_kept : (s s' : List (Option TableState)) (ms : List Move) (ns : List ℕ) → KeepsTypes s s' → AreTyped s ms ns → AreTyped s' ms ns
 typed_kept s s' [] [] kept typed = refl
 typed_kept s s' [] (n ∷ ns) kept typed = let bad = as_many s [] (n ∷ ns) typed in absurd (omega (arith, bad))
 typed_kept s s' (m ∷ ms) [] kept typed = let bad = as_many s (m ∷ ms) [] typed in absurd (omega (arith, bad))
@@ -59,17 +53,6 @@ typed_kept s s' (m ∷ ms) (n ∷ ns) kept typed =
     let here = kept n m.type_list first in
     let rest = typed_kept s s' ms ns kept (ap (drop 1) typed) in
     λ t. here t ∷ rest t
-
--- each slot has a table
-pub all_there : (s : List (Option TableState)) (ms : List Move) (ns : List ℕ) → AreTyped s ms ns → All (λ n. IsSome (slot_of s n)) ns
-all_there s ms ns typed k d within =
-    let many = as_many s ms ns typed in
-    let inside : k < length ms = omega (arith, many, within) in
-    by ms inside typed
-  where
-    by : (xs : List Move) → k < length xs → AreTyped s xs ns → IsSome (slot_of s (get_or ns k d))
-    by [] none typed = absurd (omega (arith, none))
-    by (x ∷ xs) inside typed = there_as_typed s (get_or ns k d) (get_or (x ∷ xs) k x).type_list (typed_at s (x ∷ xs) ns k d x typed inside)
 
 -- ---- room
 
@@ -84,7 +67,8 @@ arriving_more [] n m = omega arith
 arriving_more (k ∷ ns) n m = let rest = arriving_more ns n m in omega (arith, rest)
 
 -- nobody comes to a slot that is none of some
-none_come : (ns targets : List ℕ) (m : ℕ) → All (λ n. IsTrue (list_any (nat_eq n) targets)) ns → list_any (nat_eq m) targets ≡ false → arriving ns m ≡ 0
+none_come : (ns targets : List ℕ) (m : ℕ) → All (λ n. IsTrue (list_any (nat_eq n) targets)) ns → list_any (nat_eq m) targets ≡ false
+    → arriving ns m ≡ 0
 none_come [] targets m among free = refl
 none_come (n ∷ ns) targets m among free =
     let first = All-head (λ k. IsTrue (list_any (nat_eq k) targets)) n ns among in
@@ -92,11 +76,20 @@ none_come (n ∷ ns) targets m among free =
     let here = none_elsewhere n m (λ same. true≢false (sym first ∙ sym (ap (λ k. list_any (nat_eq k) targets) same) ∙ free)) in
     omega (arith, here, rest)
 
-pub room_none : (s : List (Option TableState)) → HasRoomFor s []
+room_none : (s : List (Option TableState)) → HasRoomFor s []
 room_none s m = omega arith
 
+-- targets keep their room
+places_kept : (s s' : List (Option TableState)) (targets ns : List ℕ) → All (λ n. IsTrue (list_any (nat_eq n) targets)) ns
+    → KeepsRoomIn s s' targets → HasRoomFor s ns → HasRoomFor s' ns
+places_kept s s' targets ns among kept room m = by (list_any (nat_eq m) targets) refl
+  where
+    by : (b : Bool) → list_any (nat_eq m) targets ≡ b → arriving ns m ≤ (table_in s' m).room
+    by true is = let had = room m in let has = kept m is in omega (arith, had, has)
+    by false free = let none = none_come ns targets m among free in omega (arith, none)
+
 -- room for one more
-pub place_more : (s s' : List (Option TableState)) (ns : List ℕ) (n : ℕ) (slot : Option TableState) → HasRoomFor s ns → SetsSlot s s' n slot
+place_more : (s s' : List (Option TableState)) (ns : List ℕ) (n : ℕ) (slot : Option TableState) → HasRoomFor s ns → SetsSlot s s' n slot
     → (table_in s' n).room ≡ (table_in s n).room + 1 → HasRoomFor s' (ns ++ n ∷ [])
 place_more s s' ns n slot room sets more =
     at_each n (λ m. arriving (ns ++ n ∷ []) m ≤ (table_in s' m).room)
@@ -122,6 +115,20 @@ rest_places s s' targets n ns among admits room m = by (list_any (nat_eq m) targ
     by false free = let none = none_come ns targets m among free in omega (arith, none)
 
 -- ---- moves
+
+pub ready_none : (s : List (Option TableState)) (targets : List ℕ) → AreMovesReady s targets [] []
+ready_none s targets = record { typed = refl; named = All-nil (λ n. IsTrue (list_any (nat_eq n) targets)); room = room_none s }
+
+-- a table became a target, and room was taken in it for one move more
+pub ready_more : (s s1 s2 : List (Option TableState)) (targets all : List ℕ) (ms : List Move) (ns : List ℕ) (m : Move) (n : ℕ) (slot : Option TableState)
+    → AreMovesReady s targets ms ns → ((k : ℕ) → IsTrue (list_any (nat_eq k) targets) → IsTrue (list_any (nat_eq k) all)) → KeepsTypes s s1
+    → KeepsRoomIn s s1 targets → type_at s1 n ≡ Some m.type_list → IsTrue (list_any (nat_eq n) all) → SameTypes s1 s2 → SetsSlot s1 s2 n slot
+    → (table_in s2 n).room ≡ (table_in s1 n).room + 1 → AreMovesReady s2 all (ms ++ m ∷ []) (ns ++ n ∷ [])
+ready_more s s1 s2 targets all ms ns m n slot ready grown types room typed named same sets more = record {
+  typed = typed_alike s1 s2 _ _ (λ k d within. same _) (typed_more s1 ms ns m n (typed_kept s s1 ms ns types ready.typed) typed);
+  named = All-push (λ k. IsTrue (list_any (nat_eq k) all)) ns n (λ k d within. grown _ (ready.named k d within)) named;
+  room = place_more s1 s2 ns n slot (places_kept s s1 targets ns ready.named room ready.room) sets more;
+}
 
 pub admits_none : (s : List (Option TableState)) (slots : List ℕ) (to : ℕ) → AdmitsRow s s slots to
 admits_none s slots to = record { types = λ n among. refl; room = λ n among. omega arith }

@@ -63,17 +63,19 @@ pub use Rattle.eco_index.specs.TypeMap.{same_ids}
 pub use Rattle.eco_store.specs.Deaths.{after_deaths, death_at, with_deaths}
 pub use Rattle.eco_store.specs.Holders.{entities_whose, passes}
 pub use Rattle.eco_store.specs.Layout.{Carries, IsLaid, IsLaidBeside, IsLaidBut, IsSettled, LosesRows, MovesRow, Plans, PutsRow, RetypesRow, SetsRows, TakesRow}
-pub use Rattle.eco_store.specs.Layout.{rows_in, seen}
-pub use Rattle.eco_store.specs.Moving.{AdmitsRow, AreTyped, HasRoomFor, LeavesRoom, after_move, after_moves, arriving}
+pub use Rattle.eco_store.specs.Layout.{Turns, rows_in, seen}
+pub use Rattle.eco_store.specs.Moving.{AdmitsRow, AreMovesReady, AreTyped, HasRoomFor, LeavesRoom, after_move, after_moves, arriving}
 pub use Rattle.eco_store.specs.Placing.{fixed}
-pub use Rattle.eco_store.specs.Ranking.{IsNumbering, StandsIn, in_first, slot_number, standing_by, standing_from, standing_of, standings}
+pub use Rattle.eco_store.specs.Ranking.{AreRanked, IsNumbering, StandsIn, in_first, slot_number, standing_by, standing_from, standing_of, standings}
 pub use Rattle.eco_store.specs.Retyping.{IsOneWay, IsTypeBy, after_change, after_changes, changed_record}
 pub use Rattle.eco_store.specs.Seats.{IsSeated, Seat, held_of, seat_of, seated_entity}
-pub use Rattle.eco_store.specs.Staying.{SameIn, StayingState, all_staying, only_idle, with_gathered, with_target}
-pub use Rattle.eco_store.specs.Store.{CreatesRecord, HasPlace, IsShown, IsStore, Stands, StoreState, arity_in_store, fits_in_store, has_in_store, held_at}
-pub use Rattle.eco_store.specs.Store.{held_in_store, newborn, own_arity_in_store, read, record_for, record_ids, record_name, seat_at, seat_in, seat_of_place}
+pub use Rattle.eco_store.specs.Staying.{KeepsRoomIn, SameIn, StayingState, all_staying, only_idle, with_gathered, with_target}
+pub use Rattle.eco_store.specs.Store.{CreatesRecord, HasPlace, IsShown, IsStore, Stands, StoreState, Tries, arity_in_store, fits_in_store, has_in_store}
+pub use Rattle.eco_store.specs.Store.{held_at, held_in_store, newborn, own_arity_in_store, read, record_for, record_ids, record_name, seat_at}
+pub use Rattle.eco_store.specs.Store.{seat_in, seat_of_place}
 pub use Rattle.eco_store.specs.Store.{stepped, type_in_store, with_exchanged, with_toggled, with_type}
-pub use Rattle.eco_store.specs.Transfers.{AreNamed, HasRoom, IsNamed, IsPlan, Pours, Thins, change_of, due, place_after, placed_after, with_places}
+pub use Rattle.eco_store.specs.Transfers.{AreNamed, AreTransfersReady, HasRoom, IsNamed, IsPlan, Pours, Thins, change_of, due, place_after, placed_after}
+pub use Rattle.eco_store.specs.Transfers.{with_places}
 pub use Rattle.eco_store.specs.declared.layout.Layout.{Layout}
 pub use Rattle.eco_store.specs.declared.moving.Move.{Move}
 pub use Rattle.eco_store.specs.declared.standing.Standing.{Standing}

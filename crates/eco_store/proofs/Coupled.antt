@@ -1,10 +1,11 @@
 -- Two entities step, and the table that the second one goes to is taken before the first step.
 use Rattle.eco_store.proofs.Common.{◌≡◌, ◌≢◌, ℕ, ◌+◌, ◌≤◌, Bool, true, false, IsTrue, if◌then◌else◌, List, [], ◌∷◌}
-use Rattle.eco_store.proofs.Common.{slice_get, Option, Some, option_map, unwrap_or, nat_eq, sym, ap, ◌∙◌, arith, Result, Ok, Err, IfOk, OnErr, MatchBool}
+use Rattle.eco_store.proofs.Common.{slice_get, Option, Some, option_map, unwrap_or, nat_eq, refl, sym, ap, ◌∙◌, arith, Result, Ok, Err, IfOk}
+use Rattle.eco_store.proofs.Common.{OnErr, MatchBool}
 use Rattle.eco_store.proofs.Common.{list_any, set_comm, Entity, Id, changed, change_kept, is_alive, record_in, record_of, with_record, Indexed, Living}
 use Rattle.eco_store.proofs.Common.{slice_get-set_other, living_at, same_parts, Place, Registration, own_place, retyped, TableState, slot_of, table_in}
 use Rattle.eco_store.proofs.Common.{no_table, AllHaveIds, toggled, KeepsRoom, KeepsTypes, MayTakeType, SameSlots, StillCover, rows_from_slots, Layout, seen}
-use Rattle.eco_store.proofs.Common.{IsLaid, arriving, AdmitsRow, LeavesRoom, all_staying, read, record_ids, stepped, type_in_store, with_toggled}
+use Rattle.eco_store.proofs.Common.{IsLaid, arriving, AdmitsRow, LeavesRoom, Turns, all_staying, read, record_ids, stepped, type_in_store, with_toggled}
 use Rattle.eco_store.proofs.Laid.{laid_slots}
 use Rattle.eco_store.proofs.Stepping.{leads_to, standing_type}
 use Rattle.eco_store.proofs.StoreChanges.{row_within, same_read}
@@ -71,12 +72,7 @@ module _ (l : Layout) (s : List (Option TableState)) (e : Entity) (p : Place) (i
 
   -- it takes the entity's next type, or stays as it was
   pub may_turn : {E : Type 0} (r : Result Bool E) → IfOk r (MayTakeType l.archetypes s p.table ids) → OnErr r (SameSlots l.archetypes s)
-      → record {
-        laid : IsLaid turned;
-        took : IfOk r (λ took. MatchBool took (seen turned ≡ stepped (seen l) (e, i)) (SameSlots l.archetypes s));
-        others : (m : ℕ) → m ≢ p.table → slot_of s m ≡ slot_of l.archetypes m;
-        err : OnErr r (seen turned ≡ seen l);
-      }
+      → Turns l turned (e, i) p.table r
   may_turn (Ok true) takes err =
       let retypes = takes_row l.archetypes s p ids takes.0 takes.1 (row_within l.entities l.archetypes e p laid.store own) in
       record {
@@ -88,18 +84,24 @@ module _ (l : Layout) (s : List (Option TableState)) (e : Entity) (p : Place) (i
         took =
             written_read l.entities l.archetypes s e p (retyped ids) laid.store own retypes
             ∙ leads_to (seen l) e _ (standing_type l.entities l.archetypes e p laid.store own had) (λ xs. toggled xs i);
+        entities = refl;
+        staying = refl;
         others = takes.0.others;
         err = tt;
       }
   may_turn (Ok false) same err = record {
     laid = laid_slots l s laid widths same;
     took = same;
+    entities = refl;
+    staying = refl;
     others = λ m other. same m;
     err = tt;
   }
   may_turn (Err refused) ok same = record {
     laid = laid_slots l s laid widths same;
     took = tt;
+    entities = refl;
+    staying = refl;
     others = λ m other. same m;
     err = same_read l.entities l.archetypes s (rows_from_slots _ _ same);
   }
@@ -117,12 +119,14 @@ few_arrive to n = by (nat_eq to n)
     by true = omega arith
     by false = omega arith
 
-pub turn_leaves : (s s1 : List (Option TableState)) (n kept : ℕ) → ((m : ℕ) → m ≢ n → slot_of s1 m ≡ slot_of s m) → kept ≢ n → LeavesRoom s s1 kept
+pub turn_leaves : (s s1 : List (Option TableState)) (n kept : ℕ) → ((m : ℕ) → m ≢ n → slot_of s1 m ≡ slot_of s m) → kept ≢ n
+    → LeavesRoom s s1 kept
 turn_leaves s s1 n kept others apart =
     let room = ap (λ o. (unwrap_or o no_table).room) (others kept apart) in
     record { types = λ had is. ap (option_map (λ (t : TableState). t.ids)) (others kept apart) ∙ is; room = omega (arith, room) }
 
-pub move_leaves : (s s1 s2 : List (Option TableState)) (kept to : ℕ) (targets : List ℕ) → KeepsTypes s s1 → KeepsRoom s s1 → AdmitsRow s1 s2 targets to
+pub move_leaves : (s s1 s2 : List (Option TableState)) (kept to : ℕ) (targets : List ℕ) → KeepsTypes s s1 → KeepsRoom s s1
+    → AdmitsRow s1 s2 targets to
     → IsTrue (list_any (nat_eq kept) targets) → LeavesRoom s s2 kept
 move_leaves s s1 s2 kept to targets types room admits named =
     let one = few_arrive to kept in

@@ -17,10 +17,12 @@ first_row [] none = absurd (omega arith)
 first_row (r ∷ rows) some = (r, refl)
 
 -- the table has rows and a match exactly where it is found
-pub is_found_there : (test : List Id → Bool) (o : Option TableState) → 0 < length (unwrap_or o no_table).rows → test (unwrap_or o no_table).ids ≡ true →
+pub is_found_there : (test : List Id → Bool) (o : Option TableState) → 0 < length (unwrap_or o no_table).rows
+    → test (unwrap_or o no_table).ids ≡ true →
     is_found_by test o ≡ true
 is_found_there test None rows matches = absurd (omega arith)
-is_found_there test (Some t) rows matches = let some : nat_lt 0 (length t.rows) ≡ true = grind (arith, nat_tests) in ap (λ b. b && test t.ids) some ∙ matches
+is_found_there test (Some t) rows matches = let some : nat_lt 0 (length t.rows) ≡ true = grind (arith, nat_tests) in ap (λ b. b && test t.ids) some
+    ∙ matches
 
 pub found_matches : (test : List Id → Bool) (o : Option TableState) → is_found_by test o ≡ true → test (unwrap_or o no_table).ids ≡ true
 found_matches test None h = absurd (true≢false (sym h))
@@ -91,7 +93,8 @@ module _ (w : Indexed Record) (s : List (Option TableState)) (test : List Id →
   abbrev StandsIn : List ℕ → Entity → Type 0
   StandsIn ns e = (n : ℕ) × (row : ℕ) × (r : TableRow) × (row_at s n row ≡ Some r) × (r.entity ≡ e) × (list_any (nat_eq n) ns ≡ true)
 
-  in_rows : (rows : List TableRow) (e : Entity) → Contains (entities_of rows) e → (row : ℕ) × (r : TableRow) × (slice_get rows row ≡ Some r) × (r.entity ≡ e)
+  in_rows : (rows : List TableRow) (e : Entity) → Contains (entities_of rows) e
+      → (row : ℕ) × (r : TableRow) × (slice_get rows row ≡ Some r) × (r.entity ≡ e)
   in_rows rows e c =
       let d : TableRow = record { entity = e; held = [] } in
       let within : c.0 < length rows = rw (length-map rows (λ (r : TableRow). r.entity)) at c.1 in
@@ -117,11 +120,13 @@ module _ (w : Indexed Record) (s : List (Option TableState)) (test : List Id →
             ∙ ap (λ (x : TableRow). x.entity) (get_or_from_slice_get rows row r r at),
       )
 
-  pub row_standing : (ns : List ℕ) (n row : ℕ) (r : TableRow) → list_any (nat_eq n) ns ≡ true → row_at s n row ≡ Some r → Contains (standing_in s ns) r.entity
+  pub row_standing : (ns : List ℕ) (n row : ℕ) (r : TableRow) → list_any (nat_eq n) ns ≡ true → row_at s n row ≡ Some r
+      → Contains (standing_in s ns) r.entity
   row_standing [] n row r listed at = absurd (true≢false (sym listed))
   row_standing (m ∷ ns) n row r listed at = by (λ h. row_standing ns n row r h at) (nat_eq n m) refl
     where
-      by : (list_any (nat_eq n) ns ≡ true → Contains (standing_in s ns) r.entity) → (b : Bool) → nat_eq n m ≡ b → Contains (standing_in s (m ∷ ns)) r.entity
+      by : (list_any (nat_eq n) ns ≡ true → Contains (standing_in s ns) r.entity) → (b : Bool) → nat_eq n m ≡ b
+          → Contains (standing_in s (m ∷ ns)) r.entity
       by rest true same =
           Contains-append_left (entities_of (table_in s m).rows) (standing_in s ns) r.entity
           (rows_contain (table_in s m).rows row r (ap (λ k. row_at s k row) (sym ((Decides-eqb n m).0 same)) ∙ at))

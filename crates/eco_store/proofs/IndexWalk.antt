@@ -149,7 +149,8 @@ module _ (w : Indexed Registration) (tables : List (Option TableState)) (store :
           ∙ ap (λ b. map (λ (y : Entity × Record). y.0) (cond b ((e, x) ∷ filter passed lives) (filter passed lives))) (sym is)
 
       whose_from : (i : ℕ) (states : List (IndexState Registration)) → AreFrom i states
-          → map (λ (s : Standing). s.entity) (standing_from numbers i states) ≡ map (λ y. y.0) (filter passed (living_from i (map (map_state kept) states)))
+          → map (λ (s : Standing). s.entity) (standing_from numbers i states)
+          ≡ map (λ y. y.0) (filter passed (living_from i (map (map_state kept) states)))
       whose_from i [] from = refl
       whose_from i (Retired ∷ states) from = whose_from (i + 1) states (next i Retired states from)
       whose_from i (Free g ∷ states) from = whose_from (i + 1) states (next i (Free g) states from)
@@ -166,7 +167,8 @@ module _ (w : Indexed Registration) (tables : List (Option TableState)) (store :
       walked_whose = whose_from 0 w.indices (λ k. let e : k ≡ 0 + k = omega arith in ap (slice_get w.indices) e)
 
     -- the entity has the ids of the table that its number says
-    placed_one : (e : Entity) (n k : ℕ) (list : List Standing) → slot_number numbers n ≡ k → type_in_store (read w tables) e ≡ Some (table_in tables n).ids
+    placed_one : (e : Entity) (n k : ℕ) (list : List Standing) → slot_number numbers n ≡ k
+        → type_in_store (read w tables) e ≡ Some (table_in tables n).ids
         → AllByRecursion (StandsIn (read w tables) tables slots) list
         → AllByRecursion (StandsIn (read w tables) tables slots) (option_to_list (standing_by e k) ++ list)
     placed_one e n zero list is typed rest = rest

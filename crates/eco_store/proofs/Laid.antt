@@ -1,10 +1,10 @@
 -- The parts of a layout agree after a step of a call, and what is seen of it.
 use Rattle.eco_store.proofs.Common.{◌≡◌, ℕ, List, [], ◌∷◌, IsTrue, Option, None, is_some, unwrap_or, nat_eq, slice_get, refl, sym, ap, subst}
-use Rattle.eco_store.proofs.Common.{◌∙◌, true≢false, Result, Ok, Err, OnOk, OnErr, MatchResult, Some, length, none-some, list_any, Entity, Id, Indexed}
-use Rattle.eco_store.proofs.Common.{changed, Record, on_ok, on_err, TableState, width_in, new_row, no_table, rowless_type, slot_of, table_in, with_row}
-use Rattle.eco_store.proofs.Common.{SetsSlot, need, Registration, Place, type_at, RowlessBut, RowlessIn, SameRows, SameSlots, MeetsNeeds, StillCover}
+use Rattle.eco_store.proofs.Common.{◌∙◌, true≢false, Result, Err, Some, length, none-some, list_any, Entity, Id, Indexed}
+use Rattle.eco_store.proofs.Common.{changed, Record, TableState, width_in, new_row, no_table, rowless_type, slot_of, table_in, with_row}
+use Rattle.eco_store.proofs.Common.{SetsSlot, need, Registration, Place, type_at, RowlessIn, SameRows, SameSlots, MeetsNeeds, StillCover}
 use Rattle.eco_store.proofs.Common.{rows_from_slots, then_rows, typed_table, Layout, rows_in, seen, Carries, IsLaid, IsLaidBeside, IsLaidBut, IsSettled, Plans}
-use Rattle.eco_store.proofs.Common.{PutsRow, StayingState, all_staying, only_idle, with_target, HasPlace, IsStore, read, seat_in, with_type}
+use Rattle.eco_store.proofs.Common.{PutsRow, StayingState, all_staying, only_idle, with_target, HasPlace, IsStore, Tries, read, seat_in, with_type}
 use Rattle.eco_store.proofs.Coming.{admits_none}
 use Rattle.eco_store.proofs.LaidRows.{row_puts, rows_alike}
 use Rattle.eco_store.proofs.Rowless.{rowless_filled, rowless_targeted}
@@ -36,15 +36,6 @@ module _ (l : Layout) (s : List (Option TableState)) (rows : SameRows l.archetyp
   abbrev pub sought : Layout
   sought = record { entities = l.entities; archetypes = s; staying = l.staying }
 
-  module _ {E : Type 0} (r : Result ℕ E) (rowless : RowlessBut l.archetypes s r) (widths : StillCover l.entities l.archetypes s) where
-    pub sought_laid : IsLaid l → MatchResult r (λ n. IsLaidBeside sought n) (λ e. IsLaid sought)
-    sought_laid laid = by r (rowless (all_staying l.staying) laid.tidy)
-      where
-        by : (r : Result ℕ E) → MatchResult r (λ n. RowlessIn s (n ∷ all_staying l.staying)) (λ e. RowlessIn s (all_staying l.staying))
-            → MatchResult r (λ n. IsLaidBeside sought n) (λ e. IsLaid sought)
-        by (Ok n) tidy = laid_alike l s l.staying _ _ laid rows widths tidy
-        by (Err e) tidy = laid_alike l s l.staying _ _ laid rows widths tidy
-
   -- none was found
   pub sought_settled : IsSettled l → StillCover l.entities l.archetypes s → ((slots : List ℕ) → RowlessIn l.archetypes slots → RowlessIn s slots)
       → IsSettled sought
@@ -53,14 +44,20 @@ module _ (l : Layout) (s : List (Option TableState)) (rows : SameRows l.archetyp
     done = settled.done;
   }
 
-  -- who went there has the type
-  module _ {A E : Type 0} (r : Result A E) (v : Indexed Record) where
-    pub sought_ok : (e : Entity) (ids : List Id) (f : Record → Record) → changed (seen l) e (with_type ids) ≡ changed (seen l) e f
-        → OnOk r (v ≡ changed (seen sought) e (with_type ids)) → OnOk r (v ≡ changed (seen l) e f)
-    sought_ok e ids f same = on_ok r (λ is. is ∙ ap (λ v. changed v e (with_type ids)) (same_read l.entities l.archetypes s rows) ∙ same)
+  -- one was
+  pub sought_laid : IsLaid l → StillCover l.entities l.archetypes s → (n : ℕ)
+      → ((slots : List ℕ) → RowlessIn l.archetypes slots → RowlessIn s (n ∷ slots)) → IsLaidBeside sought n
+  sought_laid laid widths n rowless = laid_alike l s l.staying _ _ laid rows widths (rowless (all_staying l.staying) laid.tidy)
 
-    pub sought_err : OnErr r (v ≡ seen sought) → OnErr r (v ≡ seen l)
-    sought_err = on_err r (λ is. is ∙ same_read l.entities l.archetypes s rows)
+  -- who goes there has its type
+  pub sought_seen : (v : Indexed Record) (n : ℕ) (e : Entity) (ids : List Id) → type_at s n ≡ Some ids
+      → v ≡ changed (seen sought) e (with_type (table_in s n).ids) → v ≡ changed (seen l) e (with_type ids)
+  sought_seen v n e ids typed is =
+      is ∙ (λ t. changed (same_read l.entities l.archetypes s rows t) e (with_type (typed_table s n ids typed t)))
+
+-- memory was refused
+pub tried_none : {A E : Type 0} (v w : Indexed Record) (r : Result A E) (e : E) (new : Indexed Record) → r ≡ Err e → new ≡ v → Tries v w r new
+tried_none v w r e new is same = subst (λ x. Tries v w x new) (sym is) (record { ok = tt; err = same })
 
 -- a row came to the end of a table that was found for it
 module _ (l : Layout) (s s1 : List (Option TableState)) (p : Place) (e : Entity) (ids : List Id) (rows : SameRows l.archetypes s)
@@ -95,7 +92,8 @@ laid_empty w s p nobody nothing = record {
 
 -- ---- no call is under way
 
-pub only_idle_stay : (s : List (Option TableState)) (p : StayingState) (idle : List ℕ) → p ≡ only_idle idle → RowlessIn s idle → RowlessIn s (all_staying p)
+pub only_idle_stay : (s : List (Option TableState)) (p : StayingState) (idle : List ℕ) → p ≡ only_idle idle → RowlessIn s idle
+    → RowlessIn s (all_staying p)
 only_idle_stay s p idle nothing few = subst (λ (q : StayingState). RowlessIn s (all_staying q)) (sym nothing) few
 
 pub done_idle : (p : StayingState) (idle : List ℕ) → p ≡ only_idle idle → p ≡ only_idle p.idle
@@ -141,6 +139,13 @@ plans_then l m n a b = record {
   rows = then_rows l.archetypes m.archetypes n.archetypes a.rows b.rows;
   targets = λ k was. b.targets k (a.targets k was);
 }
+
+-- and then room was taken
+pub plans_reserved : (l m : Layout) → Plans l m → (s : List (Option TableState)) → SameRows m.archetypes s → StillCover m.entities m.archetypes s
+    → ((slots : List ℕ) → RowlessIn m.archetypes slots → RowlessIn s slots)
+    → Plans l (record { entities = m.entities; archetypes = s; staying = m.staying })
+plans_reserved l m plans s rows widths rowless =
+    plans_then l m _ plans (plans_same m plans.laid s m.staying rows widths (rowless (all_staying m.staying) plans.laid.tidy) refl)
 
 pub plans_seen : (l m : Layout) → Plans l m → seen m ≡ seen l
 plans_seen l m plans = seen_alike l.entities l.archetypes m plans.entities plans.rows

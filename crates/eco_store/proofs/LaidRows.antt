@@ -36,7 +36,8 @@ row_moves s s' from to n ids moved apart typed is moves filled =
 
 -- a new entity got a row
 pub row_puts : (s s' : List (Option TableState)) (p : Place) (e : Entity) (ids : List Id) → (table_in s p.table).ids ≡ ids
-    → p.row ≡ length (rows_in s p.table) → SetsSlot s s' p.table (Some (with_row (table_in s p.table) (new_row e))) → PutsRow (rows_in s) (rows_in s') p e ids
+    → p.row ≡ length (rows_in s p.table) → SetsSlot s s' p.table (Some (with_row (table_in s p.table) (new_row e)))
+    → PutsRow (rows_in s) (rows_in s') p e ids
 row_puts s s' p e ids typed end sets = record {
   end = end;
   rows = subst (λ is. SetsRows (rows_in s) (rows_in s') p.table (rows_in s p.table ++ retyped_row is (new_row e) ∷ [])) typed

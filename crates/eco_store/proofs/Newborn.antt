@@ -83,7 +83,8 @@ next_is {A} w e h = by (lowest_free 0 w.indices) refl h
         (omega (arith, r.2), subst Vacant (sym (ap (slice_get w.indices) at ∙ r.3)) tt)
 
 -- ---- what is kept is mapped
-module _ {A B : Type 0} (f : A → B) (name_a : A → Option (List ℕ)) (name_b : B → Option (List ℕ)) (names : (a : A) → name_b (f a) ≡ name_a a) where
+module _ {A B : Type 0} (f : A → B) (name_a : A → Option (List ℕ)) (name_b : B → Option (List ℕ))
+    (names : (a : A) → name_b (f a) ≡ name_a a) where
   abbrev mapped : Indexed A → Indexed B
   mapped w = record { limit = w.limit; indices = map (map_state f) w.indices }
 
@@ -108,13 +109,15 @@ module _ {A B : Type 0} (f : A → B) (name_a : A → Option (List ℕ)) (name_b
   living-map n (Living g r ∷ rest) = ap (λ ys. (record { index = n; generation = g }, f r) ∷ ys) (living-map (n + 1) rest)
 
   find-map : (name : List ℕ) (xs : List (Entity × A))
-      → option_map (λ p. p.0) (find (λ p. is_called name (name_b p.1)) (map second xs)) ≡ option_map (λ p. p.0) (find (λ p. is_called name (name_a p.1)) xs)
+      → option_map (λ p. p.0) (find (λ p. is_called name (name_b p.1)) (map second xs))
+      ≡ option_map (λ p. p.0) (find (λ p. is_called name (name_a p.1)) xs)
   find-map name [] = refl
   find-map name (x ∷ xs) = ap (λ b. option_map (λ p. p.0) (if b then Some (second x) else find (λ p. is_called name (name_b p.1)) (map second xs)))
       (ap (is_called name) (names x.1)) ∙ by (is_called name (name_a x.1)) (find-map name xs)
     where
       by : (b : Bool)
-          → option_map (λ p. p.0) (find (λ p. is_called name (name_b p.1)) (map second xs)) ≡ option_map (λ p. p.0) (find (λ p. is_called name (name_a p.1)) xs)
+          → option_map (λ p. p.0) (find (λ p. is_called name (name_b p.1)) (map second xs))
+          ≡ option_map (λ p. p.0) (find (λ p. is_called name (name_a p.1)) xs)
           → option_map (λ p. p.0) (if b then Some (second x) else find (λ p. is_called name (name_b p.1)) (map second xs))
           ≡ option_map (λ p. p.0) (if b then Some x else find (λ p. is_called name (name_a p.1)) xs)
       by true rest = refl
@@ -202,7 +205,8 @@ module _ {A B : Type 0} (f : A → B) (name_a : A → Option (List ℕ)) (name_b
       ends_shown (Ok e) new' (rw (r.0, r.1) (refl, is))
 
 -- no name is unfit for want of memory
-unfit_known : {A : Type 0} (name_of : A → Option (List ℕ)) (w : Indexed A) (name : Option (List ℕ)) (why : Refusal) → unfit_name name_of w name ≡ Some why
+unfit_known : {A : Type 0} (name_of : A → Option (List ℕ)) (w : Indexed A) (name : Option (List ℕ)) (why : Refusal)
+    → unfit_name name_of w name ≡ Some why
     → is_out_of_memory (refused why) ≡ false
 unfit_known name_of w name why = by (not (is_proper name)) (is_borne name_of w name)
   where

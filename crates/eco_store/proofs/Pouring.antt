@@ -1,5 +1,6 @@
 -- Tables, their types and their room while all rows of some go to others.
-use Rattle.eco_store.proofs.Common.{◌≡◌, ◌≢◌, ℕ, ◌+◌, ◌≤◌, ◌<◌, ◌==◌, Bool, true, false, if◌then◌else◌, List, []}
+use Rattle.eco_store.proofs.Common.{◌≡◌, ◌≢◌, ℕ, ◌+◌, ◌≤◌, ◌<◌, ◌==◌, Bool, true, false, if◌then◌else◌, List}
+use Rattle.eco_store.proofs.Common.{[], AreNamed, AreTransfersReady, IsNamed, KeepsRoomIn, SameTypes, list_any, nat_eq, IsTrue, true≢false}
 use Rattle.eco_store.proofs.Common.{◌∷◌, ◌++◌, map, length, get_or, Option, Some, None, option_map, unwrap_or, is_some, IsSome, refl, sym, ap}
 use Rattle.eco_store.proofs.Common.{◌∙◌, arith, All, length-map, map-append, All-head, All-nil, All-tail, All-push, TableState, slot_of, table_in}
 use Rattle.eco_store.proofs.Common.{no_table, SetsSlot, not_equal, type_there, there_by_type, there_as_typed, Transfer, TypeChange, type_at, KeepsTypes}
@@ -56,20 +57,20 @@ plan_alike s s' ts cs sources targets plan = record {
 }
 
 -- and so while no table goes
-pub plan_kept : (s s' : List (Option TableState)) (ts : List Transfer) (cs : List TypeChange) → KeepsTypes s s' → IsPlan s ts cs → IsPlan s' ts cs
+plan_kept : (s s' : List (Option TableState)) (ts : List Transfer) (cs : List TypeChange) → KeepsTypes s s' → IsPlan s ts cs → IsPlan s' ts cs
 plan_kept s s' ts cs keeps plan =
     plan_alike s s' ts cs (λ k d within. kept_type s s' (get_or ts k d).from keeps (plan.sources k d within))
     (λ k d within. kept_type s s' (get_or ts k d).to keeps (plan.targets k d within)) plan
 
 -- no transfer is a plan of no change
-pub plan_none : (s : List (Option TableState)) → IsPlan s [] []
+plan_none : (s : List (Option TableState)) → IsPlan s [] []
 plan_none s = record {
   sources = All-nil (λ (t : Transfer). IsSome (slot_of s t.from));
   targets = All-nil (λ (t : Transfer). IsSome (slot_of s t.to));
   types = refl;
 }
 
-pub plan_more : (s : List (Option TableState)) (ts : List Transfer) (cs : List TypeChange) (t : Transfer) (c : TypeChange) → IsPlan s ts cs
+plan_more : (s : List (Option TableState)) (ts : List Transfer) (cs : List TypeChange) (t : Transfer) (c : TypeChange) → IsPlan s ts cs
     → type_at s t.from ≡ Some c.from → type_at s t.to ≡ Some c.to → IsPlan s (ts ++ t ∷ []) (cs ++ c ∷ [])
 plan_more s ts cs t c plan from to =
     let is : change_of s t ≡ c = λ i. record {
@@ -147,28 +148,68 @@ room_rest s s' t ts room pours apart none n =
         (λ m other not_to.
         let same = ap (λ o. length (unwrap_or o no_table).rows) (pours.others m other (λ e. not_to (sym e))) in omega (arith, same))
 
+-- targets keep their room, and no more rows come
+pub room_stays : (s s' : List (Option TableState)) (slots : List ℕ) (ts : List Transfer) → AreNamed slots ts
+    → All (λ t. length (table_in s' t.from).rows ≤ length (table_in s t.from).rows) ts → KeepsRoomIn s s' slots → HasRoom s ts → HasRoom s' ts
+room_stays s s' slots ts named fewer kept room n = by (list_any (nat_eq n) slots) refl
+  where
+    by : (b : Bool) → list_any (nat_eq n) slots ≡ b → due s' ts n ≤ (table_in s' n).room
+    by true among = omega (arith, due_fewer s s' ts n fewer, room n, kept n among)
+    by false among =
+        let nothing : due s' ts n ≡ 0 = due_none s' ts n (λ k d within here.
+        true≢false (sym (named k d within).1 ∙ ap (λ m. list_any (nat_eq m) slots) here ∙ among)) in
+        omega (arith, nothing)
+
 -- ---- taking room
 
 -- tables with the same rows have the same list of them
 pub rows_same : (s s' : List (Option TableState)) → SameRows s s' → (n : ℕ) → (table_in s' n).rows ≡ (table_in s n).rows
 rows_same s s' same n = ext_slice_get (table_in s' n).rows (table_in s n).rows (same n)
 
+as_few : (s s' : List (Option TableState)) (ts : List Transfer) → SameRows s s'
+    → All (λ t. length (table_in s' t.from).rows ≤ length (table_in s t.from).rows) ts
+as_few s s' ts same k d within = let rows = ap length (rows_same s s' same (get_or ts k d).from) in omega (arith, rows)
+
 due_more : (s : List (Option TableState)) (ts : List Transfer) (t : Transfer) (n : ℕ) → due s (ts ++ t ∷ []) n ≡ due s ts n + brought s t n
 due_more s [] t n = omega arith
 due_more s (u ∷ ts) t n = let rest = due_more s ts t n in omega (arith, rest)
 
 -- room for one transfer more
-pub room_more : (s s' : List (Option TableState)) (ts : List Transfer) (t : Transfer) (slot : Option TableState) → HasRoom s ts → SameRows s s' →
+room_more : (s s' : List (Option TableState)) (ts : List Transfer) (t : Transfer) (slot : Option TableState) → HasRoom s ts → SameRows s s' →
     SetsSlot s s' t.to slot
     → (table_in s t.to).room + length (table_in s t.from).rows ≤ (table_in s' t.to).room → HasRoom s' (ts ++ t ∷ [])
 room_more s s' ts t slot room same sets more n =
-    let fewer : due s' (ts ++ t ∷ []) n ≤ due s (ts ++ t ∷ []) n =
-    due_fewer s s' (ts ++ t ∷ []) n (λ k d within.
-    let rows : length (table_in s' (get_or (ts ++ t ∷ []) k d).from).rows ≡ length (table_in s (get_or (ts ++ t ∷ []) k d).from).rows =
-    ap length (rows_same s s' same (get_or (ts ++ t ∷ []) k d).from) in
-    omega (arith, rows)) in
+    let fewer : due s' (ts ++ t ∷ []) n ≤ due s (ts ++ t ∷ []) n = due_fewer s s' (ts ++ t ∷ []) n (as_few s s' (ts ++ t ∷ []) same) in
     at_each t.to (λ n. due s' (ts ++ t ∷ []) n ≤ due s (ts ++ t ∷ []) n → due s' (ts ++ t ∷ []) n ≤ (table_in s' n).room)
     (λ fewer. omega (arith, due_more s ts t t.to, brought_here s t t.to refl, room t.to, more))
     (λ n other fewer.
     let stays = ap (λ o. (unwrap_or o no_table).room) (sets.others n other) in
     omega (arith, due_more s ts t n, brought_elsewhere s t n other, room n, stays)) n fewer
+
+-- ---- transfers that are ready
+
+pub ready_none : (s : List (Option TableState)) (targets : List ℕ) → AreTransfersReady s targets [] []
+ready_none s targets = record { plan = plan_none s; named = All-nil (IsNamed targets); room = λ n. omega arith }
+
+-- tables came, and targets
+pub ready_kept : (s s' : List (Option TableState)) (targets all : List ℕ) (ts : List Transfer) (cs : List TypeChange)
+    → AreTransfersReady s targets ts cs → ((n : ℕ) → IsTrue (list_any (nat_eq n) targets) → IsTrue (list_any (nat_eq n) all)) → KeepsTypes s s'
+    → KeepsRoomIn s s' targets → SameRows s s' → AreTransfersReady s' all ts cs
+ready_kept s s' targets all ts cs ready grown types room rows = record {
+  plan = plan_kept s s' ts cs types ready.plan;
+  named = λ k d within. (grown _ (ready.named k d within).0, grown _ (ready.named k d within).1);
+  room = room_stays s s' targets ts ready.named (as_few s s' ts rows) room ready.room;
+}
+
+-- room was taken for one more
+pub ready_more : (s s' : List (Option TableState)) (targets : List ℕ) (ts : List Transfer) (cs : List TypeChange) (t : Transfer) (c : TypeChange)
+    (slot : Option TableState)
+    → AreTransfersReady s targets ts cs → type_at s t.from ≡ Some c.from → type_at s t.to ≡ Some c.to → IsNamed targets t
+    → SameTypes s s' → SameRows s s'
+    → SetsSlot s s' t.to slot → (table_in s t.to).room + length (table_in s t.from).rows ≤ (table_in s' t.to).room
+    → AreTransfersReady s' targets (ts ++ t ∷ []) (cs ++ c ∷ [])
+ready_more s s' targets ts cs t c slot ready from to named types rows sets more = record {
+  plan = plan_kept s s' _ _ (λ n ids was. types n ∙ was) (plan_more s ts cs t c ready.plan from to);
+  named = All-push (IsNamed targets) ts t ready.named named;
+  room = room_more s s' ts t slot ready.room rows sets more;
+}

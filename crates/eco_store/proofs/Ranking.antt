@@ -4,7 +4,7 @@ use Rattle.eco_store.proofs.Common.{get_or, Option, Some, refl, sym, ap, ◌∙�
 use Rattle.eco_store.proofs.Common.{IsDistinct, list_any, IsPermutation, IsSorted, IsSortedByKey, IsTotalOrder, IsAntisymmetric, get_or-map, length-map}
 use Rattle.eco_store.proofs.Common.{map-append, All-from_recursion, All-permutation, IsPermutation-map, Record, Entity, Id, Indexed, entity_cmp}
 use Rattle.eco_store.proofs.Common.{AscendingAreSets, TableRow, TableState, entities_of, slot_of, table_in, is_found_by, standing_in, entities_whose, in_first}
-use Rattle.eco_store.proofs.Common.{standings, StandsIn, IsShown, record_ids, Standing}
+use Rattle.eco_store.proofs.Common.{AreRanked, standings, StandsIn, IsShown, record_ids, Standing}
 use Rattle.std.proofs.Common.{drop-cons}
 use Rattle.std.specs.Prelude.{slice_index_or}
 use Rattle.eco_store.proofs.Holders.{found_matches, row_kept, standing_apart, standing_whose, whose_ascend}
@@ -99,13 +99,12 @@ module _ (w : Indexed Record) (tables : List (Option TableState)) (shown : IsSho
   -- all who stand in the tables that a test finds, by entity, are those who pass it
   pub ranked_whose : IsTotalOrder entity_cmp → IsAntisymmetric entity_cmp → AscendingAreSets entity_cmp → (test : List Id → Bool) (ns : List ℕ)
       → ((n : ℕ) → list_any (nat_eq n) ns ≡ is_found_by test (slot_of tables n)) → IsDistinct nat_eq ns
-      → (ss : List Standing) → IsPermutation (standings 0 tables ns) ss → IsSortedByKey (λ (s : Standing). s.entity) entity_cmp ss
-      → map (λ (s : Standing). s.entity) ss ≡ entities_whose w test
-  ranked_whose total ties sets test ns listed distinct ss moved up =
+      → (ss : List Standing) → AreRanked (standings 0 tables ns) ss → map (λ (s : Standing). s.entity) ss ≡ entities_whose w test
+  ranked_whose total ties sets test ns listed distinct ss are =
       sorted_is total ties sets (standing_in tables ns) (map (λ (s : Standing). s.entity) ss) (entities_whose w test)
       (subst (λ zs. IsPermutation zs (map (λ (s : Standing). s.entity) ss)) (standings_entities 0 tables ns)
-      (IsPermutation-map (λ (s : Standing). s.entity) (standings 0 tables ns) ss moved))
-      (keys_sorted ss up)
+      (IsPermutation-map (λ (s : Standing). s.entity) (standings 0 tables ns) ss are.all))
+      (keys_sorted ss are.sorted)
       (standing_apart w tables test shown ns distinct)
       (whose_ascend w test)
       (standing_whose w tables test shown ns (λ n h. found_matches test (slot_of tables n) (sym (listed n) ∙ h)) (λ n h. listed n ∙ h))

@@ -46,7 +46,8 @@ rows_removed s E f row there here elsewhere = record {
 }
 
 -- a row came to the end of a table, and nothing else did
-pub rows_pushed : (E E' : ℕ → ℕ → Option TableRow) (t end : ℕ) (xs : List TableRow) (r : TableRow) → end ≡ length xs → ((k : ℕ) → E t k ≡ slice_get xs k)
+pub rows_pushed : (E E' : ℕ → ℕ → Option TableRow) (t end : ℕ) (xs : List TableRow) (r : TableRow) → end ≡ length xs
+    → ((k : ℕ) → E t k ≡ slice_get xs k)
     → ((k : ℕ) → E' t k ≡ slice_get (xs ++ r ∷ []) k) → ((n k : ℕ) → n ≢ t → E' n k ≡ E n k) → Pushed E E' t end r
 rows_pushed E E' t end xs r end_is before after elsewhere = rw end_is (record {
   free = before (length xs) ∙ slice_get_past xs (length xs) (omega arith);

@@ -29,7 +29,8 @@ rowless_from s n = by (slot_of s n)
     by (Some t) h none = ap (λ rows. is_some (rowless t rows)) none
 
 -- more slots may be without rows
-pub rowless_more : (s : List (Option TableState)) (few many : List ℕ) → ((n : ℕ) → IsTrue (list_any (nat_eq n) few) → IsTrue (list_any (nat_eq n) many)) →
+pub rowless_more : (s : List (Option TableState)) (few many : List ℕ)
+    → ((n : ℕ) → IsTrue (list_any (nat_eq n) few) → IsTrue (list_any (nat_eq n) many)) →
     RowlessIn s few → RowlessIn s many
 rowless_more s few many more was n empty = more n (was n empty)
 
@@ -37,7 +38,8 @@ among_first : (n : ℕ) (slots : List ℕ) → IsTrue (list_any (nat_eq n) (n �
 among_first n slots = ap (λ b. b || list_any (nat_eq n) slots) (is_equal n n refl)
 
 -- one of the slots is among the others
-pub rowless_twice : (s : List (Option TableState)) (n : ℕ) (slots : List ℕ) → IsTrue (list_any (nat_eq n) slots) → RowlessIn s (n ∷ slots) → RowlessIn s slots
+pub rowless_twice : (s : List (Option TableState)) (n : ℕ) (slots : List ℕ) → IsTrue (list_any (nat_eq n) slots) → RowlessIn s (n ∷ slots)
+    → RowlessIn s slots
 rowless_twice s n slots among =
     rowless_more s (n ∷ slots) slots
     (at_each n (λ m. IsTrue (list_any (nat_eq m) (n ∷ slots)) → IsTrue (list_any (nat_eq m) slots)) (λ there. among)
@@ -72,7 +74,8 @@ module _ (s s' : List (Option TableState)) (n : ℕ) (slots : List ℕ) where
       (λ m other empty. ap (λ b. b || list_any (nat_eq m) slots) (not_equal m n other) ∙ was m (others_rowless slot sets m other empty))
 
   -- a table has as many rows as before
-  pub rowless_rewritten : (slot : Option TableState) → SetsSlot s s' n slot → length (table_in s' n).rows ≡ length (table_in s n).rows → IsSome (slot_of s n) →
+  pub rowless_rewritten : (slot : Option TableState) → SetsSlot s s' n slot → length (table_in s' n).rows ≡ length (table_in s n).rows
+      → IsSome (slot_of s n) →
       RowlessIn s slots → RowlessIn s' slots
   rowless_rewritten slot sets as_many there was =
       at_each n (λ m. IsTrue (is_rowless s' m) → IsTrue (list_any (nat_eq m) slots))
@@ -156,7 +159,8 @@ among_staying p m =
     ∙ ap (λ b. b || list_any (nat_eq m) p.idle) (list_any-append (nat_eq m) p.gathered p.targets)
 
 -- a slot becomes one of the targets
-pub rowless_targeted : (s : List (Option TableState)) (p : StayingState) (n : ℕ) → RowlessIn s (n ∷ all_staying p) → RowlessIn s (all_staying (with_target p n))
+pub rowless_targeted : (s : List (Option TableState)) (p : StayingState) (n : ℕ) → RowlessIn s (n ∷ all_staying p)
+    → RowlessIn s (all_staying (with_target p n))
 rowless_targeted s p n =
     rowless_more s (n ∷ all_staying p) (all_staying (with_target p n)) (λ m there.
     rw (among_staying (with_target p n) m)

@@ -32,7 +32,8 @@ whose None e h = absurd (cc)
 whose (Some r) e h = (r, refl, cc)
 
 -- rows hold something else, each of the same entity
-pub rewritten_seated : (P : ℕ → Option Seat) (E E' : ℕ → ℕ → Option TableRow) → ((n k : ℕ) → who (E' n k) ≡ who (E n k)) → IsSeated P E → IsSeated P E'
+pub rewritten_seated : (P : ℕ → Option Seat) (E E' : ℕ → ℕ → Option TableRow) → ((n k : ℕ) → who (E' n k) ≡ who (E n k))
+    → IsSeated P E → IsSeated P E'
 rewritten_seated P E E' same seated = record {
   there = λ j p h.
       let old = seated.there j p h in
@@ -182,7 +183,8 @@ module _ (P P' : ℕ → Option Seat) (E E' : ℕ → ℕ → Option TableRow) (
                   let x_is : x ≡ m = one_some (E f last) x m (sym (removed.at_row apart) ∙ sym (λ s. E' (same s) (at_row s)) ∙ e) moved in
                   (λ s. P' (x_is s).entity.index) ∙ fixed apart ∙ sym (λ s. Some (seat_of (x_is s).entity (same s) (at_row s)))
               | inr not_row ↦
-                  keeps (ap (λ z. E z k) same ∙ sym (removed.others_here k not_row not_last) ∙ ap (λ z. E' z k) (sym same) ∙ e) (λ _. not_row) (λ _. not_last)
+                  keeps (ap (λ z. E z k) same ∙ sym (removed.others_here k not_row not_last) ∙ ap (λ z. E' z k) (sym same) ∙ e) (λ _. not_row)
+                  (λ _. not_last)
             ]
           ]
         ];

@@ -58,7 +58,8 @@ module _ {K : Type 0} {R : K → K → Ordering} (o : IsTotalOrder R) (same : Is
   eq_decides x y = (λ h. same x y (equal_tie _ h), λ e. subst (λ z. eq_by_cmp R x z ≡ true) e (ap is_eq (tied_itself o x)))
 
   eq_flips : (x y : K) → eq_by_cmp R x y ≡ eq_by_cmp R y x
-  eq_flips x y = ap is_eq (o.antisymm x y) ∙ elim (R y x) as (λ r. is_eq (ordering_reverse r) ≡ is_eq r) [ Less ↦ refl | Equal ↦ refl | Greater ↦ refl ]
+  eq_flips x y = ap is_eq (o.antisymm x y)
+      ∙ elim (R y x) as (λ r. is_eq (ordering_reverse r) ≡ is_eq r) [ Less ↦ refl | Equal ↦ refl | Greater ↦ refl ]
 
   pub apart_permuted : (xs ys : List K) → IsPermutation xs ys → Apart xs → Apart ys
   apart_permuted xs ys moved apart =

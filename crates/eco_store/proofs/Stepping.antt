@@ -9,7 +9,8 @@ use Rattle.eco_ids.proofs.IdOrder.{id_cmp_total}
 use Rattle.eco_store.proofs.StoreChanges.{held_there, read_record, row_within}
 
 -- an entity's type is that of its table
-pub standing_type : (w : Indexed Registration) (s : List (Option TableState)) (e : Entity) (p : Place) → IsStore w s → own_place w e ≡ Some p → AllHaveIds s
+pub standing_type : (w : Indexed Registration) (s : List (Option TableState)) (e : Entity) (p : Place) → IsStore w s → own_place w e ≡ Some p
+    → AllHaveIds s
     → type_in_store (read w s) e ≡ Some (table_in s p.table).ids
 standing_type w s e p store own had =
     let r = held_there w s e p store own in
@@ -20,7 +21,8 @@ standing_type w s e p store own had =
 not_alike : (i j : Id) → IsTrue (is_lt (id_cmp i j)) → id_eq j i ≡ false
 not_alike i j h = ap is_eq (id_cmp_total.antisymm j i ∙ ap ordering_reverse (less (id_cmp i j) h))
 
-map_alike : {X Y : Type 0} (f g : X → Y) (t : X → Bool) → ((x : X) → IsTrue (t x) → f x ≡ g x) → (xs : List X) → IsTrue (list_all t xs) → map f xs ≡ map g xs
+map_alike : {X Y : Type 0} (f g : X → Y) (t : X → Bool) → ((x : X) → IsTrue (t x) → f x ≡ g x) → (xs : List X)
+    → IsTrue (list_all t xs) → map f xs ≡ map g xs
 map_alike f g t same [] all = refl
 map_alike f g t same (x ∷ xs) all =
     let here = same x (first (t x) (list_all t xs) all) in

@@ -213,7 +213,8 @@ module _ (w : Indexed Registration) (s s1 : List (Option TableState)) (e : Entit
     -- all is seen as before but what is seen of the entity
     after_read : (y : IndexState Record)
         → ((j : ℕ) → j ≢ e.index → option_map (seen (row_at s1)) (seat_at after j) ≡ option_map (seen (row_at s)) (seat_at w j))
-        → option_map (map_state (record_for (row_at s1))) (Some x) ≡ Some y → read after s1 ≡ record (read w s) { indices = set (read w s).indices e.index y }
+        → option_map (map_state (record_for (row_at s1))) (Some x) ≡ Some y
+        → read after s1 ≡ record (read w s) { indices = set (read w s).indices e.index y }
     after_read y others it =
         let was = read_at w s e.index _ (living_at w e own_record.0 own_record.1) in
         let indices = alike_set (read after s1).indices (read w s).indices e.index y _ was (read_at after s1 e.index _ after_own ∙ it)

@@ -1,8 +1,8 @@
 -- Tables that lose rows, and what that leaves of the plans over them.
-use Rattle.eco_store.proofs.Common.{◌<◌, map, ◌≡◌, ℕ, ◌≤◌, Bool, true, false, true≢false, List, length, get_or, Option, Some, option_map}
-use Rattle.eco_store.proofs.Common.{unwrap_or, IsSome, nat_eq, refl, sym, ap, ◌∙◌, arith, list_any, TableState, slot_of, table_in, no_table, SetsSlot}
-use Rattle.eco_store.proofs.Common.{type_at, sets_types, Transfer, TypeChange, SameIn, change_of, AreNamed, IsPlan, HasRoom, Thins, due}
-use Rattle.eco_store.proofs.Pouring.{changes_alike, plan_alike, due_fewer, due_none}
+use Rattle.eco_store.proofs.Common.{◌<◌, map, ◌≡◌, ℕ, ◌≤◌, List, length, get_or, Option, Some, option_map, AreTransfersReady}
+use Rattle.eco_store.proofs.Common.{unwrap_or, IsSome, refl, ap, ◌∙◌, arith, TableState, slot_of, table_in, no_table, SetsSlot}
+use Rattle.eco_store.proofs.Common.{type_at, sets_types, Transfer, TypeChange, SameIn, change_of, AreNamed, Thins}
+use Rattle.eco_store.proofs.Pouring.{changes_alike, plan_alike, room_stays}
 use Rattle.eco_store.proofs.Targets.{room_won}
 use Rattle.eco_store.proofs.Views.{at_each}
 
@@ -18,7 +18,8 @@ thins_both s s1 s2 slots a b = record {
 
 -- rows of a table went, and then tables outside of these slots may have gone
 pub thins_without : (s s1 s2 : List (Option TableState)) (n : ℕ) (t : TableState) (slots : List ℕ) → IsSome (slot_of s n) → SetsSlot s s1 n (Some t)
-    → t.ids ≡ (table_in s n).ids → length t.rows ≤ length (table_in s n).rows → (table_in s n).room ≤ t.room → SameIn s1 s2 slots → Thins s s2 slots
+    → t.ids ≡ (table_in s n).ids → length t.rows ≤ length (table_in s n).rows → (table_in s n).room ≤ t.room → SameIn s1 s2 slots
+    → Thins s s2 slots
 thins_without s s1 s2 n t slots there sets typed less more same = record {
   types = λ m among. ap (option_map (λ (u : TableState). u.ids)) (same m among) ∙ sets_types s s1 n t sets there typed m;
   rows = λ m among.
@@ -45,20 +46,11 @@ module _ (s s' : List (Option TableState)) (slots : List ℕ) (ts : List Transfe
   pub same_changes : map (change_of s') ts ≡ map (change_of s) ts
   same_changes = changes_alike s s' ts from to
 
-  pub plan_thinned : (cs : List TypeChange) → IsPlan s ts cs → IsPlan s' ts (map (change_of s') ts)
-  plan_thinned cs plan =
-      let still = plan_alike s s' ts cs from to plan in
-      record { sources = still.sources; targets = still.targets; types = refl }
-
-  pub room_thinned : HasRoom s ts → HasRoom s' ts
-  room_thinned room n = by (list_any (nat_eq n) slots) refl
-    where
-      fewer : due s' ts n ≤ due s ts n
-      fewer = due_fewer s s' ts n (λ k d within. thins.rows (get_or ts k d).from (named k d within).0)
-
-      by : (b : Bool) → list_any (nat_eq n) slots ≡ b → due s' ts n ≤ (table_in s' n).room
-      by true among = omega (arith, fewer, room n, thins.room n among)
-      by false among =
-          let nothing : due s' ts n ≡ 0 = due_none s' ts n (λ k d within here.
-          true≢false (sym (named k d within).1 ∙ ap (λ m. list_any (nat_eq m) slots) here ∙ among)) in
-          omega (arith, nothing)
+  pub ready_thinned : (cs : List TypeChange) → AreTransfersReady s slots ts cs → AreTransfersReady s' slots ts (map (change_of s') ts)
+  ready_thinned cs ready =
+      let still = plan_alike s s' ts cs from to ready.plan in
+      record {
+        plan = record { sources = still.sources; targets = still.targets; types = refl };
+        named = ready.named;
+        room = room_stays s s' slots ts ready.named (λ k d within. thins.rows (get_or ts k d).from (named k d within).0) thins.room ready.room;
+      }

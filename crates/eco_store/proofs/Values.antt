@@ -31,7 +31,8 @@ stands_there w s e p t store own at =
       within = within;
       held = λ d.
           ap (held_at (row_at s)) r.2 ∙ ap held_of seat.1
-          ∙ ap (λ (x : TableRow). x.held) (one_some (slice_get t.rows p.row) seat.0 (get_or t.rows p.row d) in_table (slice_get-get_or t.rows p.row d within));
+          ∙ ap (λ (x : TableRow). x.held) (one_some (slice_get t.rows p.row) seat.0 (get_or t.rows p.row d) in_table
+          (slice_get-get_or t.rows p.row d within));
     })
 
 -- and the row is the entity's own

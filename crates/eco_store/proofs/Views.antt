@@ -25,7 +25,8 @@ ext_slice_get (x ∷ xs) (y ∷ ys) each =
     λ t. first t ∷ rest t
 
 -- lists that read alike but at one index, and there as well
-pub alike_but : {X : Type 0} (xs ys : List X) (i : ℕ) → slice_get xs i ≡ slice_get ys i → ((j : ℕ) → j ≢ i → slice_get xs j ≡ slice_get ys j) → xs ≡ ys
+pub alike_but : {X : Type 0} (xs ys : List X) (i : ℕ) → slice_get xs i ≡ slice_get ys i
+    → ((j : ℕ) → j ≢ i → slice_get xs j ≡ slice_get ys j) → xs ≡ ys
 alike_but xs ys i here others =
     ext_slice_get xs ys (at_each i (λ j. slice_get xs j ≡ slice_get ys j) here others)
 

@@ -89,7 +89,8 @@ module _ (w : Indexed Registration) (s : List (Option TableState)) (store : IsSt
   next_alive = ap is_some (record_at (with_places w t end count) e own.0 unplaced)
 
   -- no other entity has that place
-  only : (j g : ℕ) (r : Registration) (p : Place) → j ≢ e.index → slice_get w.indices j ≡ Some (Living g r) → r.place ≡ Some p → p.table ≡ t.from
+  only : (j g : ℕ) (r : Registration) (p : Place) → j ≢ e.index → slice_get w.indices j ≡ Some (Living g r) → r.place ≡ Some p
+      → p.table ≡ t.from
       → p.row ≢ count
   only j g r p other at is here row =
       let mine = store.seated.there e.index (seat_of e t.from count) seat in
@@ -191,7 +192,8 @@ module _ (w : Indexed Registration) (s s1 : List (Option TableState)) (t : Trans
       ]
 
   -- the place of a row that went, and of one that stayed
-  place_went : (p : Place) (r : TableRow) → p.table ≡ t.from → row_at s p.table p.row ≡ Some r → after p ≡ record { table = t.to; row = end + p.row }
+  place_went : (p : Place) (r : TableRow) → p.table ≡ t.from → row_at s p.table p.row ≡ Some r
+      → after p ≡ record { table = t.to; row = end + p.row }
   place_went p r here at =
       placed_there t end count p here (slice_get_within (table_in s t.from).rows p.row r (ap (λ m. row_at s m p.row) (sym here) ∙ at))
 

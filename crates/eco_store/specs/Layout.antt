@@ -1,21 +1,22 @@
 -- The entities of a store in their tables, and how these change.
 use Rattle.std.specs.Prelude.{◌≡◌, ◌≢◌, ℕ, IsTrue, List, [], ◌∷◌, ◌++◌, length, nat_eq, slice_get, slice_index_or, slice_set}
-use Rattle.std.specs.Prelude.{Option, OnErr, OnOk, Result}
+use Rattle.std.specs.Prelude.{Bool, IfOk, MatchBool, Option, OnErr, OnOk, Result, Some}
 use Rattle.std.specs.List.{list_any, swap_remove}
 use Rattle.eco_ids.specs.declared.entity.Entity.{Entity}
 use Rattle.eco_ids.specs.declared.id.Id.{Id}
 use Rattle.eco_tables.specs.Table.{TableRow, TableState, retyped_row, entities_of}
-use Rattle.eco_tables.specs.Tables.{table_in, no_row, new_row}
+use Rattle.eco_tables.specs.Tables.{slot_of, table_in, no_row, new_row, with_row, SetsSlot}
 use Rattle.eco_entities.specs.declared.place.Place.{Place}
 use Rattle.eco_entities.specs.Needs.{need}
-use Rattle.eco_ids.specs.Indices.{Indexed}
+use Rattle.eco_entities.specs.Registration.{placed}
+use Rattle.eco_ids.specs.Indices.{changed, Indexed}
 use Rattle.eco_ids.specs.World.{Record}
-use Rattle.eco_archetypes.specs.Archetypes.{RowlessIn, SameRows}
+use Rattle.eco_archetypes.specs.Archetypes.{RowlessIn, SameRows, SameSlots}
 use Rattle.eco_archetypes.specs.Widths.{MeetsNeeds}
 use Rattle.eco_store.specs.declared.layout.Layout.{Layout}
 use Rattle.eco_store.specs.Moving.{AdmitsRow, LeavesRoom}
 use Rattle.eco_store.specs.Staying.{only_idle, all_staying, SameIn}
-use Rattle.eco_store.specs.Store.{IsStore, read, stepped}
+use Rattle.eco_store.specs.Store.{IsStore, read, stepped, Tries}
 use Rattle.eco_store.specs.Transfers.{Pours, Thins}
 
 -- what is seen of a layout: the record of each living entity
@@ -47,13 +48,28 @@ pub record IsSettled (l : Layout) : Type 0 where
 -- all is seen to be so, or, where memory is refused, as it was
 pub record Attempts {A E : Type 0} (old new : Layout) (w : Indexed Record) (r : Result A E) : Type 0 where
   pub laid : IsLaid new
-  pub ok : OnOk r (seen new ≡ w)
-  pub err : OnErr r (seen new ≡ seen old)
+  pub tries : Tries (seen old) w r (seen new)
 
 -- an entity gets an id or loses it, or nothing is changed; the table in a slot keeps its type, and room but for one row
 pub record StepsBeside {A E : Type 0} (old new : Layout) (step : Entity × Id) (n : ℕ) (r : Result A E) : Type 0 where
   pub steps : Attempts old new (stepped (seen old) step) r
   pub kept : OnOk r (LeavesRoom old.archetypes new.archetypes n)
+
+-- the table in a slot took the next type of the only entity in it, or no slot has changed
+pub record Turns {E : Type 0} (old new : Layout) (step : Entity × Id) (n : ℕ) (r : Result Bool E) : Type 0 where
+  pub laid : IsLaid new
+  pub entities : new.entities ≡ old.entities
+  pub staying : new.staying ≡ record old.staying { idle = new.staying.idle }
+  pub took : IfOk r (λ took. MatchBool took (seen new ≡ stepped (seen old) step) (SameSlots old.archetypes new.archetypes))
+  pub others : (m : ℕ) → m ≢ n → slot_of new.archetypes m ≡ slot_of old.archetypes m
+  pub err : OnErr r (seen new ≡ seen old)
+
+-- the entity is placed at the end of the table in a slot, in a row of its own
+pub record SeatsEntity (old new : Layout) (e : Entity) (n : ℕ) : Type 0 where
+  pub placed : new.entities ≡ changed old.entities e (placed (record { table = n; row = length (table_in old.archetypes n).rows }))
+  pub row : SetsSlot old.archetypes new.archetypes n (Some (with_row (table_in old.archetypes n) (new_row e)))
+  pub covers : MeetsNeeds (need old.entities) old.archetypes → MeetsNeeds (need new.entities) new.archetypes
+  pub staying : new.staying ≡ old.staying
 
 -- tables without rows may have gone, but for targets, and others are idle
 pub record Releases (old new : Layout) : Type 0 where

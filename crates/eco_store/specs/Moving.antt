@@ -1,6 +1,6 @@
 -- Single entities get other types, all or none.
 use Rattle.std.specs.Prelude.{ℕ, ◌+◌, ◌≤◌, ◌==◌, ◌≡◌, IsTrue, List, [], ◌∷◌, fold, map, nat_eq, Option, Some, if◌then◌else◌}
-use Rattle.std.specs.List.{list_any}
+use Rattle.std.specs.List.{All, list_any}
 use Rattle.eco_ids.specs.declared.id.Id.{Id}
 use Rattle.eco_ids.specs.World.{Record}
 use Rattle.eco_ids.specs.Indices.{changed, Indexed}
@@ -33,6 +33,12 @@ arriving (m ∷ ms) n = (if m == n then 1 else 0) + arriving ms n
 -- each slot has room for all that come
 abbrev pub HasRoomFor : List (Option TableState) → List ℕ → Type 0
 HasRoomFor slots to = (n : ℕ) → arriving to n ≤ (table_in slots n).room
+
+-- the slots that moves go to: each is a target, has the type of its move, and room for all that come there
+pub record AreMovesReady (slots : List (Option TableState)) (targets : List ℕ) (moves : List Move) (to : List ℕ) : Type 0 where
+  pub typed : AreTyped slots moves to
+  pub named : All (λ n. IsTrue (list_any (nat_eq n) targets)) to
+  pub room : HasRoomFor slots to
 
 -- the tables in some slots keep their types, and lose no more room than one row in the table in a slot takes
 pub record AdmitsRow (old new : List (Option TableState)) (slots : List ℕ) (to : ℕ) : Type 0 where

@@ -1,6 +1,9 @@
 -- Who stands in the tables of some slots.
-use Rattle.std.specs.Prelude.{◌≡◌, ◌≢◌, ℕ, ◌<◌, ◌+◌, zero, suc, List, [], ◌∷◌, ◌++◌, length, map, slice_index_or, Option, None, Some, option_to_list}
+use Rattle.std.specs.Prelude.{◌≡◌, ◌≢◌, ℕ, ◌<◌, ◌+◌, zero, suc, List, [], ◌∷◌, ◌++◌, length, map, slice_index_or}
+use Rattle.std.specs.Prelude.{Option, None, Some, option_to_list}
+use Rattle.std.specs.List.Sorted.{IsPermutation, IsSortedByKey}
 use Rattle.eco_ids.specs.World.{Record}
+use Rattle.eco_ids.specs.Order.{entity_cmp}
 use Rattle.eco_ids.specs.Indices.{Indexed, IndexState}
 use Rattle.eco_ids.specs.declared.entity.Entity.{Entity}
 use Rattle.eco_entities.specs.Registration.{Registration}
@@ -18,6 +21,11 @@ in_first e = record { entity = e; place = 0 }
 abbrev pub standings : ℕ → List (Option TableState) → List ℕ → List Standing
 standings i tables [] = []
 standings i tables (n ∷ ns) = map (λ e. record { entity = e; place = i }) (entities_of (table_in tables n).rows) ++ standings (suc i) tables ns
+
+-- the list has exactly these, ascending by their entities
+pub record AreRanked (ones ranked : List Standing) : Type 0 where
+  pub all : IsPermutation ones ranked
+  pub sorted : IsSortedByKey (λ (s : Standing). s.entity) entity_cmp ranked
 
 -- the place is one of a slot whose table has the entity's own ids
 abbrev pub StandsIn : Indexed Record → List (Option TableState) → List ℕ → Standing → Type 0

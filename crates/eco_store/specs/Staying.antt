@@ -1,9 +1,9 @@
 -- The slots whose tables stay though they may be without rows.
-use Rattle.std.specs.Prelude.{◌≡◌, ℕ, IsTrue, List, [], ◌∷◌, ◌++◌, nat_eq, Option, Some, if◌then◌else◌}
+use Rattle.std.specs.Prelude.{◌≡◌, ℕ, ◌≤◌, IsTrue, List, [], ◌∷◌, ◌++◌, nat_eq, Option, Some, if◌then◌else◌}
 use Rattle.std.specs.Prelude.{slice_get, slice_set}
 use Rattle.std.specs.List.{list_any}
 use Rattle.eco_tables.specs.Table.{TableState}
-use Rattle.eco_tables.specs.Tables.{slot_of}
+use Rattle.eco_tables.specs.Tables.{slot_of, table_in}
 
 -- targets: slots to which or from which rows go, while a call changes many entities; gathered: slots whose tables lost all
 -- rows and are to go together; idle: slots whose tables lost their last row, and stay too
@@ -15,6 +15,10 @@ pub record StayingState : Type 0 where
 -- each of these slots has what it had
 abbrev pub SameIn : List (Option TableState) → List (Option TableState) → List ℕ → Type 0
 SameIn old new slots = (n : ℕ) → IsTrue (list_any (nat_eq n) slots) → slot_of new n ≡ slot_of old n
+
+-- each of these slots has the room that it had, or more
+abbrev pub KeepsRoomIn : List (Option TableState) → List (Option TableState) → List ℕ → Type 0
+KeepsRoomIn old new slots = (n : ℕ) → IsTrue (list_any (nat_eq n) slots) → (table_in old n).room ≤ (table_in new n).room
 
 -- no target, and nothing is gathered
 abbrev pub only_idle : List ℕ → StayingState

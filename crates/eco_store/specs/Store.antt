@@ -1,6 +1,7 @@
 -- A store: a record of each living entity, as the world has it, with no table in it.
-use Rattle.std.specs.Prelude.{◌≡◌, ℕ, ◌<◌, ◌==◌, nat_lt, Bool, ◌&&◌, false, Result, length, slice_index_or, List, [], map, slice_get, Option, None, Some}
-use Rattle.std.specs.Prelude.{IsSome, is_some, option_map, option_and_then, unwrap_or}
+use Rattle.std.specs.Prelude.{◌≡◌, ℕ, ◌<◌, ◌==◌, nat_lt, Bool, ◌&&◌, false, Result, length, slice_index_or, List, [], map}
+use Rattle.std.specs.Prelude.{slice_get, Option, None, Some}
+use Rattle.std.specs.Prelude.{IsSome, is_some, option_map, option_and_then, unwrap_or, OnErr, OnOk}
 use Rattle.std.specs.FinMap.Entries.{find}
 use Rattle.std.specs.Option.{option_or}
 use Rattle.eco_ids.specs.declared.entity.Entity.{Entity}
@@ -109,6 +110,11 @@ MakesRecordAlive w e = Meets (MakesAliveWith w e (newborn None None [])) (is_fre
 abbrev pub RenamesRecord : Indexed Record → Entity → Option (List ℕ) → Result (Unit {0}) Refusal → Indexed Record → Type 0
 RenamesRecord w e name = Meets (RenamesWith record_name with_name w e false name) (may_rename record_name w e false name) w
 
+-- the store is this one afterwards, or, where memory is refused, as it was
+pub record Tries {A E : Type 0} (old w : Indexed Record) (r : Result A E) (new : Indexed Record) : Type 0 where
+  pub ok : OnOk r (new ≡ w)
+  pub err : OnErr r (new ≡ old)
+
 -- ---- how rows and places make it
 
 -- what the row at a place holds
@@ -167,6 +173,8 @@ Stands (Some k) t row = StandsAt k t row
 -- exactly one row, and a row has a value for each id of its table's type
 pub record IsShown (w : Indexed Record) (slots : List (Option TableState)) : Type 0 where
   pub rows : (n row : ℕ) (r : TableRow) → row_at slots n row ≡ Some r → Stands (record_of w r.entity) (table_in slots n) row
-  pub living : (e : Entity) (k : Record) → record_of w e ≡ Some k → (n : ℕ) × (row : ℕ) × (r : TableRow) × (row_at slots n row ≡ Some r) × (r.entity ≡ e)
-  pub once : (n row m other : ℕ) (r x : TableRow) → row_at slots n row ≡ Some r → row_at slots m other ≡ Some x → r.entity ≡ x.entity → (n ≡ m) × (row ≡ other)
+  pub living : (e : Entity) (k : Record) → record_of w e ≡ Some k
+      → (n : ℕ) × (row : ℕ) × (r : TableRow) × (row_at slots n row ≡ Some r) × (r.entity ≡ e)
+  pub once : (n row m other : ℕ) (r x : TableRow) → row_at slots n row ≡ Some r → row_at slots m other ≡ Some x → r.entity ≡ x.entity
+      → (n ≡ m) × (row ≡ other)
   pub own : (n : ℕ) → RowsHaveIds (table_in slots n)

@@ -1,5 +1,6 @@
 -- All rows of a table go to another.
-use Rattle.std.specs.Prelude.{◌≡◌, ◌≢◌, ℕ, ◌+◌, ◌≤◌, ◌==◌, ◌&&◌, nat_lt, List, [], ◌∷◌, map, length, nat_eq, Option, option_map, IsSome, IsTrue, if◌then◌else◌}
+use Rattle.std.specs.Prelude.{◌≡◌, ◌≢◌, ℕ, ◌+◌, ◌≤◌, ◌==◌, ◌&&◌, nat_lt, List, [], ◌∷◌, map, length, nat_eq}
+use Rattle.std.specs.Prelude.{Option, option_map, IsSome, IsTrue, if◌then◌else◌}
 use Rattle.std.specs.List.{All, list_any}
 use Rattle.eco_ids.specs.Indices.{Indexed, map_state}
 use Rattle.eco_entities.specs.declared.place.Place.{Place}
@@ -9,6 +10,7 @@ use Rattle.eco_tables.specs.Tables.{slot_of, table_in}
 use Rattle.eco_store.specs.declared.transfer.Transfer.{Transfer}
 use Rattle.eco_store.specs.declared.type_change.TypeChange.{TypeChange}
 use Rattle.eco_archetypes.specs.Archetypes.{type_at, SameTypes}
+use Rattle.eco_store.specs.Staying.{KeepsRoomIn}
 
 -- the change of type that comes with it
 abbrev pub change_of : List (Option TableState) → Transfer → TypeChange
@@ -32,7 +34,7 @@ pub record IsPlan (slots : List (Option TableState)) (transfers : List Transfer)
 pub record Thins (old new : List (Option TableState)) (slots : List ℕ) : Type 0 where
   pub types : (n : ℕ) → IsTrue (list_any (nat_eq n) slots) → type_at new n ≡ type_at old n
   pub rows : (n : ℕ) → IsTrue (list_any (nat_eq n) slots) → length (table_in new n).rows ≤ length (table_in old n).rows
-  pub room : (n : ℕ) → IsTrue (list_any (nat_eq n) slots) → (table_in old n).room ≤ (table_in new n).room
+  pub room : KeepsRoomIn old new slots
 
 -- how many rows the transfers bring to a slot
 abbrev pub due : List (Option TableState) → List Transfer → ℕ → ℕ
@@ -42,6 +44,13 @@ due slots (t ∷ ts) n = (if t.to == n then length (table_in slots t.from).rows 
 -- each slot has room for what the transfers bring
 abbrev pub HasRoom : List (Option TableState) → List Transfer → Type 0
 HasRoom slots transfers = (n : ℕ) → due slots transfers n ≤ (table_in slots n).room
+
+-- the transfers make these changes, between targets that have room for all rows that come there
+pub record AreTransfersReady (slots : List (Option TableState)) (targets : List ℕ) (transfers : List Transfer) (changes : List TypeChange)
+    : Type 0 where
+  pub plan : IsPlan slots transfers changes
+  pub named : AreNamed targets transfers
+  pub room : HasRoom slots transfers
 
 -- a table's rows went to another, which took no more room than they need
 pub record Pours (old new : List (Option TableState)) (from to : ℕ) : Type 0 where

@@ -1,14 +1,13 @@
 //! Steps of two entities, both or neither. One of them goes to a table in which its room is taken first; so where the other
 //! stands alone, its table takes its next type where it stands, and no table of all its ids is made.
-ghost use Rattle.std.specs.Prelude.{◌≡◌, ◌≢◌, ℕ, false, Some, IsTrue, IfOk, MatchBool, OnErr, length, nat_eq};
+ghost use Rattle.std.specs.Prelude.{◌≡◌, ◌≢◌, false, Some, IsTrue, length, nat_eq};
 ghost use Rattle.std.specs.List.{list_any};
-ghost use Rattle.eco_archetypes.specs.Archetypes.{SameSlots};
 ghost use Rattle.eco_entities.specs.Registration.{own_place};
 ghost use Rattle.eco_ids.specs.Indices.{is_alive};
 ghost use Rattle.eco_ids.specs.Order.{entity_eq};
-ghost use Rattle.eco_store.specs.Layout.{seen, Attempts, IsLaid, StepsBeside};
+ghost use Rattle.eco_store.specs.Layout.{seen, Attempts, IsLaid, StepsBeside, Turns};
 ghost use Rattle.eco_store.specs.Store.{stepped};
-ghost use Rattle.eco_tables.specs.Tables.{slot_of, table_in};
+ghost use Rattle.eco_tables.specs.Tables.{table_in};
 
 use crate::layout::Layout;
 use eco_entities::Place;
@@ -92,14 +91,7 @@ impl Layout {
     pub(crate) fn turn(&mut self, step: (Entity, Id), place: Place) -> Result<bool, AllocError>
         requires laid { IsLaid self.old }
         requires own { own_place self.old.entities step.0 ≡ Some place }
-        ensures laid { IsLaid self.new }
-        ensures entities { self.new.entities ≡ self.old.entities }
-        ensures staying { self.new.staying ≡ record self.old.staying { idle = self.new.staying.idle } }
-        ensures took { IfOk result (λ took. MatchBool took (seen self.new ≡ stepped (seen self.old) step)
-            (SameSlots self.old.archetypes self.new.archetypes)) }
-        ensures others { (m : ℕ) → m ≢ place.table
-            → slot_of self.new.archetypes m ≡ slot_of self.old.archetypes m }
-        ensures err { OnErr result (seen self.new ≡ seen self.old) }
+        ensures { Turns self.old self.new step place.table result }
     {
         self.archetypes.tables().rows_have_ids();
         self.archetypes

@@ -5,7 +5,7 @@ ghost use Rattle.eco_ids.specs.Order.{entity_cmp, has_item};
 ghost use Rattle.eco_store.specs.Deaths.{after_deaths};
 ghost use Rattle.eco_store.specs.Layout.{seen, IsLaid, LosesRows};
 ghost use Rattle.eco_store.specs.Retyping.{after_changes, IsOneWay};
-ghost use Rattle.eco_store.specs.Transfers.{change_of, AreNamed, HasRoom, IsPlan};
+ghost use Rattle.eco_store.specs.Transfers.{change_of, AreTransfersReady};
 
 use crate::layout::Layout;
 use crate::placing::fix_place;
@@ -51,11 +51,9 @@ impl Layout {
     /// memory.
     pub(crate) fn carry_out(&mut self, dead: &[Entity], transfers: &[Transfer])
         requires laid { IsLaid self.old }
-        requires named { AreNamed self.old.staying.targets transfers.now }
-        requires plan { IsPlan self.old.archetypes transfers.now
+        requires ready { AreTransfersReady self.old.archetypes self.old.staying.targets transfers.now
             (map (change_of self.old.archetypes) transfers.now) }
         requires one_way { IsOneWay (map (change_of self.old.archetypes) transfers.now) }
-        requires room { HasRoom self.old.archetypes transfers.now }
         ensures laid { IsLaid self.new }
         ensures seen { seen self.new
             ≡ after_changes (after_deaths (seen self.old) (has_item entity_cmp dead.now))

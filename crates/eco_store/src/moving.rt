@@ -1,11 +1,9 @@
 //! Moves of entities to types: the entities go one after another to tables in which their room was taken.
-ghost use Rattle.std.specs.Prelude.{◌≡◌, ◌<◌, [], IsOk, IsSome, IsTrue, OnOk, nat_eq};
-ghost use Rattle.std.specs.List.{All, list_any};
+ghost use Rattle.std.specs.Prelude.{◌≡◌, ◌<◌, IsSome};
 ghost use Rattle.eco_tables.specs.Tables.{slot_of, table_in};
-ghost use Rattle.eco_archetypes.specs.Archetypes.{SameTypes};
 ghost use Rattle.eco_ids.specs.Indices.{changed};
-ghost use Rattle.eco_store.specs.Layout.{seen, Carries, IsLaid, Plans};
-ghost use Rattle.eco_store.specs.Moving.{after_moves, AreTyped, HasRoomFor};
+ghost use Rattle.eco_store.specs.Layout.{seen, Carries, IsLaid};
+ghost use Rattle.eco_store.specs.Moving.{after_moves, AreMovesReady};
 ghost use Rattle.eco_store.specs.Store.{with_type};
 
 use crate::layout::Layout;
@@ -20,22 +18,6 @@ pub struct Move {
 }
 
 impl Layout {
-    /// Room for one row more in the table in each of these slots, as often as the slot is named. Without slots it takes no
-    /// memory.
-    pub(crate) fn take_places(&mut self, slots: &[TableSlot]) -> Result<(), AllocError>
-        requires laid { IsLaid self.old }
-        requires there { All (λ n. IsSome (slot_of self.old.archetypes n)) slots.now }
-        ensures plans { Plans self.old self.new }
-        ensures types { SameTypes self.old.archetypes self.new.archetypes }
-        ensures room { OnOk result (HasRoomFor self.new.archetypes slots.now) }
-        ensures nothing { slots.now ≡ [] → IsOk result }
-    {
-        for slot in slots {
-            self.archetypes.reserve_more(*slot, 1)?;
-        }
-        Ok(())
-    }
-
     /// The entity, if it lives, goes to the table in this slot, unless it stands there. It takes no memory.
     pub(crate) fn go_to(&mut self, e: Entity, to: TableSlot)
         requires laid { IsLaid self.old }
@@ -61,9 +43,7 @@ impl Layout {
     /// Each entity goes to the table in the slot at the same place, one after another. It takes no memory.
     pub(crate) fn make_moves(&mut self, moves: &[Move], slots: &[TableSlot])
         requires laid { IsLaid self.old }
-        requires named { All (λ n. IsTrue (list_any (nat_eq n) self.old.staying.targets)) slots.now }
-        requires typed { AreTyped self.old.archetypes moves.now slots.now }
-        requires room { HasRoomFor self.old.archetypes slots.now }
+        requires ready { AreMovesReady self.old.archetypes self.old.staying.targets moves.now slots.now }
         ensures laid { IsLaid self.new }
         ensures seen { seen self.new ≡ after_moves (seen self.old) moves.now }
     {

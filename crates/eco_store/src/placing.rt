@@ -1,11 +1,9 @@
 //! An entity that came to a row is placed there.
 ghost use Rattle.std.specs.Prelude.{◌≡◌, ◌<◌, length, IsTrue, IfSome, Some};
-ghost use Rattle.eco_ids.specs.Indices.{changed, is_alive};
-ghost use Rattle.eco_entities.specs.Needs.{need};
-ghost use Rattle.eco_entities.specs.Registration.{placed};
-ghost use Rattle.eco_tables.specs.Tables.{new_row, table_in, with_row, SetsSlot};
-ghost use Rattle.eco_archetypes.specs.Widths.{MeetsNeeds};
+ghost use Rattle.eco_ids.specs.Indices.{is_alive};
+ghost use Rattle.eco_tables.specs.Tables.{table_in};
 ghost use Rattle.eco_store.specs.Placing.{fixed};
+ghost use Rattle.eco_store.specs.Layout.{SeatsEntity};
 
 use crate::layout::Layout;
 use eco_entities::laws::needs_never_grow;
@@ -30,13 +28,7 @@ impl Layout {
         requires alive { IsTrue (is_alive self.old.entities e) }
         requires room { 0 < (table_in self.old.archetypes slot).room }
         requires fits { length (table_in self.old.archetypes slot).rows < 4294967295 }
-        ensures placed { self.new.entities ≡ changed self.old.entities e
-            (placed (record { table = slot; row = length (table_in self.old.archetypes slot).rows })) }
-        ensures row { SetsSlot self.old.archetypes self.new.archetypes slot
-            (Some (with_row (table_in self.old.archetypes slot) (new_row e))) }
-        ensures covers { MeetsNeeds (need self.old.entities) self.old.archetypes
-            → MeetsNeeds (need self.new.entities) self.new.archetypes }
-        ensures staying { self.new.staying ≡ self.old.staying }
+        ensures { SeatsEntity self.old self.new e slot }
     {
         needs_never_grow();
         let row = self.archetypes.tables().row_count(slot);

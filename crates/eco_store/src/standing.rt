@@ -1,10 +1,10 @@
 //! Who stands in the tables of some slots.
 ghost use Rattle.std.specs.Prelude.{◌≡◌, ◌<◌, ◌++◌, length, map, IfOk, IsTrue, OnOk, OnErr};
-ghost use Rattle.std.specs.List.Sorted.{IsPermutation, IsSorted, IsSortedByKey};
+ghost use Rattle.std.specs.List.Sorted.{IsSorted, IsSortedByKey};
 ghost use Rattle.eco_ids.specs.Order.{entity_cmp};
 ghost use Rattle.eco_tables.specs.Table.{entities_of};
 ghost use Rattle.eco_tables.specs.Tables.{table_in};
-ghost use Rattle.eco_store.specs.Ranking.{in_first, standings};
+ghost use Rattle.eco_store.specs.Ranking.{in_first, standings, AreRanked};
 ghost use Rattle.eco_store.specs.declared.standing.Standing.{Standing as Stands};
 
 use crate::ranked::Ranked;
@@ -36,8 +36,7 @@ pub(crate) fn ranked(
     tables: &Tables,
     slots: &[TableSlot],
 ) -> Result<Ranked, AllocError>
-    ensures all { IfOk result (λ v. IsPermutation (standings 0 tables.now slots.now) v) }
-    ensures sorted { IfOk result (λ v. IsSortedByKey (λ (s : Stands). s.entity) entity_cmp v) }
+    ensures ranked { IfOk result (λ v. AreRanked (standings 0 tables.now slots.now) v) }
     ensures some { OnErr result (0 < length slots.now) }
 {
     match slots {
@@ -49,8 +48,7 @@ pub(crate) fn ranked(
 // All who stand in one table, ascending. Rows that were made one after another mostly ascend as they stand: they are copied
 // at once, and nothing is to do.
 fn alone(alloc: Global, entities: &[Entity]) -> Result<Ranked, AllocError>
-    ensures all { IfOk result (λ v. IsPermutation (map in_first entities.now) v) }
-    ensures sorted { IfOk result (λ v. IsSortedByKey (λ (s : Stands). s.entity) entity_cmp v) }
+    ensures { IfOk result (λ v. AreRanked (map in_first entities.now) v) }
 {
     let mut list = Vec::from_slice(alloc, entities)?;
     if !ascend(entities) {
@@ -73,8 +71,7 @@ fn ascend(entities: &[Entity]) -> bool
 
 // All who stand in the tables of several slots, ascending.
 fn among(alloc: Global, tables: &Tables, slots: &[TableSlot]) -> Result<Ranked, AllocError>
-    ensures all { IfOk result (λ v. IsPermutation (standings 0 tables.now slots.now) v) }
-    ensures sorted { IfOk result (λ v. IsSortedByKey (λ (s : Stands). s.entity) entity_cmp v) }
+    ensures ranked { IfOk result (λ v. AreRanked (standings 0 tables.now slots.now) v) }
     ensures some { OnErr result (0 < length slots.now) }
 {
     let mut list = gathered(alloc, tables, slots)?;
@@ -84,8 +81,7 @@ fn among(alloc: Global, tables: &Tables, slots: &[TableSlot]) -> Result<Ranked, 
 
 // The same, ascending. Rows that were made one after another mostly ascend as they stand, and nothing is to do.
 fn sort(list: &mut Vec<Standing>)
-    ensures same { IsPermutation list.old.items list.new.items }
-    ensures ascending { IsSortedByKey (λ (s : Stands). s.entity) entity_cmp list.new.items }
+    ensures { AreRanked list.old.items list.new.items }
 {
     if !ascends(list) {
         sort_all(list);
@@ -94,8 +90,7 @@ fn sort(list: &mut Vec<Standing>)
 
 // The same, sorted.
 fn sort_all(list: &mut Vec<Standing>)
-    ensures same { IsPermutation list.old.items list.new.items }
-    ensures ascending { IsSortedByKey (λ (s : Stands). s.entity) entity_cmp list.new.items }
+    ensures { AreRanked list.old.items list.new.items }
 {
     list.sort_unstable_by_key(|s| s.entity);
 }

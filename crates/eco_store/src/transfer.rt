@@ -1,12 +1,10 @@
 //! All rows of a table go to another, and their entities with them.
-ghost use Rattle.std.specs.Prelude.{◌≡◌, ◌≢◌, ◌≤◌, length, map, IsSome, OnOk};
-ghost use Rattle.std.specs.List.{All};
+ghost use Rattle.std.specs.Prelude.{◌≡◌, ◌≢◌, ◌≤◌, length, map, IsSome};
 ghost use Rattle.eco_tables.specs.Tables.{slot_of, table_in};
-ghost use Rattle.eco_archetypes.specs.Archetypes.{SameTypes};
-ghost use Rattle.eco_store.specs.Layout.{seen, Empties, IsLaid, Plans};
+ghost use Rattle.eco_store.specs.Layout.{seen, Empties, IsLaid};
 ghost use Rattle.eco_store.specs.Retyping.{after_change, after_changes, IsOneWay};
 ghost use Rattle.eco_store.specs.Store.{IsStore};
-ghost use Rattle.eco_store.specs.Transfers.{change_of, with_places, AreNamed, HasRoom, IsNamed, IsPlan};
+ghost use Rattle.eco_store.specs.Transfers.{change_of, with_places, IsNamed, AreTransfersReady};
 
 use crate::layout::Layout;
 use eco_entities::{EntityIndex, Place};
@@ -47,29 +45,12 @@ impl Transfer {
 }
 
 impl Layout {
-    /// Room for all that the transfers bring.
-    pub(crate) fn take_room(&mut self, transfers: &[Transfer]) -> Result<(), AllocError>
-        requires laid { IsLaid self.old }
-        requires there { All (λ transfer. IsSome (slot_of self.old.archetypes transfer.to)) transfers.now }
-        ensures plans { Plans self.old self.new }
-        ensures types { SameTypes self.old.archetypes self.new.archetypes }
-        ensures room { OnOk result (HasRoom self.new.archetypes transfers.now) }
-    {
-        for transfer in transfers {
-            let rows = self.archetypes.tables().row_count(transfer.from);
-            self.archetypes.reserve_more(transfer.to, rows)?;
-        }
-        Ok(())
-    }
-
     /// Carries the transfers out, one after another. It takes no memory.
     pub(crate) fn move_all(&mut self, transfers: &[Transfer])
         requires laid { IsLaid self.old }
-        requires named { AreNamed self.old.staying.targets transfers.now }
-        requires plan { IsPlan self.old.archetypes transfers.now
+        requires ready { AreTransfersReady self.old.archetypes self.old.staying.targets transfers.now
             (map (change_of self.old.archetypes) transfers.now) }
         requires one_way { IsOneWay (map (change_of self.old.archetypes) transfers.now) }
-        requires room { HasRoom self.old.archetypes transfers.now }
         ensures laid { IsLaid self.new }
         ensures seen { seen self.new
             ≡ after_changes (seen self.old) (map (change_of self.old.archetypes) transfers.now) }

@@ -36,8 +36,8 @@ pub(crate) fn walked(
     numbered(alloc, entities, &numbers, count)
 }
 
-// So many indices are gone through at once, for all of which there is room before: so a walk looks for room, and writes down how
-// many it has found, once for so many.
+// So many indices are gone through at once, for all of which there is room before: so a walk looks for room once for so many.
+// How many it has found stands on the stack, and is written there with each of them.
 const STRETCH: u32 = 64;
 
 // All who stand in a table whose slot has a number, ascending.

@@ -1,9 +1,7 @@
 //! An entity goes to another table.
-ghost use Rattle.std.specs.Prelude.{◌≡◌, ◌≢◌, ◌<◌, length, List, Some, IsSome, IsTrue, IfOk, MatchResult, OnErr, OnOk};
-ghost use Rattle.eco_archetypes.specs.Archetypes.{type_at};
+ghost use Rattle.std.specs.Prelude.{◌≡◌, ◌≢◌, ◌<◌, length, Some, IsSome, IsTrue};
 ghost use Rattle.eco_entities.specs.Registration.{own_place};
 ghost use Rattle.eco_ids.specs.Indices.{changed, is_alive};
-ghost use Rattle.eco_ids.specs.declared.id.Id.{Id as Ids};
 ghost use Rattle.eco_store.specs.Layout.{seen, Carries, IsLaid, IsLaidBeside};
 ghost use Rattle.eco_store.specs.Store.{type_in_store, with_type};
 ghost use Rattle.eco_tables.specs.Tables.{slot_of, table_in};
@@ -13,7 +11,6 @@ use crate::placing::fix_place;
 use eco_entities::Place;
 use eco_entities::laws::needs_never_grow;
 use eco_ids::{Entity, TableSlot};
-use std::alloc::AllocError;
 
 impl Layout {
     /// Where a living entity stands, in the table of its ids.
@@ -30,30 +27,6 @@ impl Layout {
         // Each row has a value for each id of its table.
         self.archetypes.tables().rows_have_ids();
         self.entities.place_of(e).unwrap()
-    }
-
-    /// The entity goes from its place to the end of the table that was found for it, where its room was taken. It stays where
-    /// memory was refused.
-    #[inline(always)]
-    pub(crate) fn carry_to(
-        &mut self,
-        e: Entity,
-        place: Place,
-        found: Result<TableSlot, AllocError>,
-    ) -> Result<(), AllocError>
-        requires laid { MatchResult found (λ to. IsLaidBeside self.old to) (λ refused. IsLaid self.old) }
-        requires own { own_place self.old.entities e ≡ Some place }
-        requires apart { IfOk found (λ to. place.table ≢ to) }
-        requires room { IfOk found (λ to. 0 < (table_in self.old.archetypes to).room) }
-        ensures laid { IsLaid self.new }
-        ensures staying { self.new.staying ≡ record self.old.staying { idle = self.new.staying.idle } }
-        ensures ok { (ids : List Ids) → IfOk found (λ to. type_at self.old.archetypes to ≡ Some ids)
-            → OnOk result (seen self.new ≡ changed (seen self.old) e (with_type ids)) }
-        ensures err { OnErr result (seen self.new ≡ seen self.old) }
-    {
-        let to = found?;
-        self.carry(e, place, to);
-        Ok(())
     }
 
     /// The entity goes from its place to the end of the table in this slot, where its room was taken. It takes no memory.

@@ -1,12 +1,13 @@
 //! The tables and the room of a call that changes many entities.
 ghost use Rattle.std.specs.Prelude.{◌≡◌, ◌≤◌, [], Some, nat_eq, IsOk, IsSome, IsTrue, IfOk, OnOk};
-ghost use Rattle.std.specs.List.{All, list_any};
+ghost use Rattle.std.specs.List.{list_any};
 ghost use Rattle.eco_tables.specs.Tables.{slot_of, table_in};
 ghost use Rattle.eco_index.specs.Edges.{toggled};
 ghost use Rattle.eco_archetypes.specs.Archetypes.{type_at, KeepsRoom, KeepsTypes};
 ghost use Rattle.eco_store.specs.Layout.{IsLaid, Plans};
-ghost use Rattle.eco_store.specs.Moving.{AreTyped, HasRoomFor};
-ghost use Rattle.eco_store.specs.Transfers.{AreNamed, IsPlan, HasRoom};
+ghost use Rattle.eco_store.specs.Moving.{AreMovesReady};
+ghost use Rattle.eco_store.specs.Transfers.{AreTransfersReady};
+ghost use Rattle.eco_store.specs.Staying.{KeepsRoomIn};
 
 use crate::layout::Layout;
 use crate::moving::Move;
@@ -25,29 +26,14 @@ impl Layout {
     ) -> Result<Vec<TableSlot>, AllocError>
         requires { IsLaid self.old }
         ensures plans { Plans self.old self.new }
-        ensures typed { IfOk result (λ slots. AreTyped self.new.archetypes moves.now slots.items) }
-        ensures room { IfOk result (λ slots. HasRoomFor self.new.archetypes slots.items) }
-        ensures named { IfOk result (λ slots.
-            All (λ n. IsTrue (list_any (nat_eq n) self.new.staying.targets)) slots.items) }
-        ensures nothing { moves.now ≡ [] → IsOk result }
-    {
-        let slots = self.find_tables(alloc, moves)?;
-        self.take_places(&slots)?;
-        Ok(slots)
-    }
-
-    // For each move the slot of the table of its type, a target.
-    fn find_tables(&mut self, alloc: Global, moves: &[Move]) -> Result<Vec<TableSlot>, AllocError>
-        requires { IsLaid self.old }
-        ensures plans { Plans self.old self.new }
-        ensures typed { IfOk result (λ slots. AreTyped self.new.archetypes moves.now slots.items) }
-        ensures named { IfOk result (λ slots.
-            All (λ n. IsTrue (list_any (nat_eq n) self.new.staying.targets)) slots.items) }
+        ensures ready { IfOk result (λ slots.
+            AreMovesReady self.new.archetypes self.new.staying.targets moves.now slots.items) }
         ensures nothing { moves.now ≡ [] → IsOk result }
     {
         let mut slots = Vec::new(alloc);
         for next in moves {
             let slot = self.target(&next.type_list)?;
+            self.archetypes.reserve_more(slot, 1)?;
             slots.push(slot)?;
         }
         Ok(slots)
@@ -62,30 +48,15 @@ impl Layout {
     ) -> Result<Vec<Transfer>, AllocError>
         requires { IsLaid self.old }
         ensures plans { Plans self.old self.new }
-        ensures plan { IfOk result (λ transfers. IsPlan self.new.archetypes transfers.items changes.now) }
-        ensures room { IfOk result (λ transfers. HasRoom self.new.archetypes transfers.items) }
-        ensures named { IfOk result (λ transfers. AreNamed self.new.staying.targets transfers.items) }
-    {
-        let transfers = self.find_transfers(alloc, changes)?;
-        self.take_room(&transfers)?;
-        Ok(transfers)
-    }
-
-    // The transfers of the changes, whose tables are targets.
-    fn find_transfers(
-        &mut self,
-        alloc: Global,
-        changes: &[TypeChange],
-    ) -> Result<Vec<Transfer>, AllocError>
-        requires { IsLaid self.old }
-        ensures plans { Plans self.old self.new }
-        ensures plan { IfOk result (λ transfers. IsPlan self.new.archetypes transfers.items changes.now) }
-        ensures named { IfOk result (λ transfers. AreNamed self.new.staying.targets transfers.items) }
+        ensures ready { IfOk result (λ transfers. AreTransfersReady
+            self.new.archetypes self.new.staying.targets transfers.items changes.now) }
     {
         let mut transfers = Vec::new(alloc);
         for change in changes {
             let from = self.target(&change.from)?;
             let to = self.target(&change.to)?;
+            let rows = self.archetypes.tables().row_count(from);
+            self.archetypes.reserve_more(to, rows)?;
             transfers.push(Transfer { from, to })?;
         }
         Ok(transfers)
@@ -113,13 +84,15 @@ impl Layout {
     }
 
     // The slot of the table with a type, which is a target from then on. What room earlier calls promised in it serves this
-    // one.
+    // one; a target keeps its room.
     fn target(&mut self, type_list: &TypeList) -> Result<TableSlot, AllocError>
         requires { IsLaid self.old }
         ensures plans { Plans self.old self.new }
         ensures typed { IfOk result (λ n. type_at self.new.archetypes n ≡ Some type_list.now) }
         ensures named { IfOk result (λ n. IsTrue (list_any (nat_eq n) self.new.staying.targets)) }
         ensures kept { OnOk result (KeepsTypes self.old.archetypes self.new.archetypes) }
+        ensures room { OnOk result
+            (KeepsRoomIn self.old.archetypes self.new.archetypes self.old.staying.targets) }
     {
         let slot = self.archetypes.room_for(&self.entities, type_list, 0)?;
         match self.staying.add_target(slot) {

@@ -1,9 +1,10 @@
 //! An entity dies, or many do and others get another type, at once.
-ghost use Rattle.std.specs.Prelude.{◌≡◌, IsTrue, OnOk, OnErr};
+ghost use Rattle.std.specs.Prelude.{◌≡◌, IsTrue};
 ghost use Rattle.eco_ids.specs.Indices.{is_alive, with_death};
 ghost use Rattle.eco_ids.specs.Order.{entity_cmp, has_item};
 ghost use Rattle.eco_store.specs.Deaths.{after_deaths};
 ghost use Rattle.eco_store.specs.Retyping.{after_changes, IsOneWay};
+ghost use Rattle.eco_store.specs.Store.{Tries};
 
 use crate::store::Store;
 use crate::type_change::TypeChange;
@@ -28,9 +29,9 @@ impl Store {
     /// The time that it takes grows with the dead and the entities that change, and not with the store.
     pub fn delete_all(&mut self, dead: &[Entity], changes: &[TypeChange]) -> Result<(), AllocError>
         requires { IsOneWay changes.now }
-        ensures ok { OnOk result (self.new.entities
-            ≡ after_changes (after_deaths self.old.entities (has_item entity_cmp dead.now)) changes.now) }
-        ensures err { OnErr result (self.new.entities ≡ self.old.entities) }
+        ensures { Tries self.old.entities
+            (after_changes (after_deaths self.old.entities (has_item entity_cmp dead.now)) changes.now)
+            result self.new.entities }
     {
         let planned = self.layout.plan_changes(self.alloc, changes);
         if let Ok(transfers) = &planned {

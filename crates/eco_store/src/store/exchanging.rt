@@ -1,7 +1,7 @@
 //! An entity gets one id in the place of another.
-ghost use Rattle.std.specs.Prelude.{◌≡◌, true, false, IsTrue, OnOk, OnErr};
+ghost use Rattle.std.specs.Prelude.{◌≡◌, true, false, IsTrue};
 ghost use Rattle.eco_ids.specs.Indices.{changed, is_alive};
-ghost use Rattle.eco_store.specs.Store.{has_in_store, with_exchanged};
+ghost use Rattle.eco_store.specs.Store.{has_in_store, with_exchanged, Tries};
 
 use crate::store::Store;
 use eco_ids::{Entity, Id};
@@ -14,15 +14,15 @@ impl Store {
         requires alive { IsTrue (is_alive self.old.entities e) }
         requires there { has_in_store self.old.entities e leaving ≡ true }
         requires absent { has_in_store self.old.entities e coming ≡ false }
-        ensures ok { OnOk result
-            (self.new.entities ≡ changed self.old.entities e (with_exchanged leaving coming)) }
-        ensures err { OnErr result (self.new.entities ≡ self.old.entities) }
+        ensures { Tries self.old.entities (changed self.old.entities e (with_exchanged leaving coming))
+            result self.new.entities }
     {
         let place = self.layout.place_of(e);
-        let found = self
+        let to = self
             .layout
             .archetypes
-            .exchange(&self.layout.entities, place.table, leaving, coming);
-        self.layout.carry_to(e, place, found)
+            .exchange(&self.layout.entities, place.table, leaving, coming)?;
+        self.layout.carry(e, place, to);
+        Ok(())
     }
 }

@@ -1,8 +1,8 @@
 //! An entity gets another type, or many do.
-ghost use Rattle.std.specs.Prelude.{◌≡◌, [], Some, IsTrue, IsOk, OnOk, OnErr};
+ghost use Rattle.std.specs.Prelude.{◌≡◌, [], Some, IsTrue, IsOk};
 ghost use Rattle.eco_ids.specs.Indices.{changed, is_alive};
 ghost use Rattle.eco_store.specs.Moving.{after_moves};
-ghost use Rattle.eco_store.specs.Store.{type_in_store, with_type};
+ghost use Rattle.eco_store.specs.Store.{type_in_store, with_type, Tries};
 
 use crate::moving::Move;
 use crate::store::Store;
@@ -14,8 +14,8 @@ impl Store {
     /// no memory and succeeds. An `Err` comes where memory is refused, and then no entity has changed.
     pub fn retype(&mut self, e: Entity, type_list: &TypeList) -> Result<(), AllocError>
         requires { IsTrue (is_alive self.old.entities e) }
-        ensures ok { OnOk result (self.new.entities ≡ changed self.old.entities e (with_type type_list.now)) }
-        ensures err { OnErr result (self.new.entities ≡ self.old.entities) }
+        ensures tries { Tries self.old.entities (changed self.old.entities e (with_type type_list.now))
+            result self.new.entities }
         ensures own { type_in_store self.old.entities e ≡ Some type_list.now → IsOk result }
     {
         let place = self.layout.place_of(e);
@@ -24,11 +24,12 @@ impl Store {
         if table.type_list().as_slice() == type_list.as_slice() {
             return Ok(());
         }
-        let found = self
+        let to = self
             .layout
             .archetypes
-            .room_for(&self.layout.entities, type_list, 1);
-        self.layout.carry_to(e, place, found)
+            .room_for(&self.layout.entities, type_list, 1)?;
+        self.layout.carry(e, place, to);
+        Ok(())
     }
 
     /// Gives each of these entities the type beside it, as [`retype`](Store::retype) does, one after another; one that doesn't
@@ -37,8 +38,8 @@ impl Store {
     ///
     /// Values of ids that came are written after it ([`set_value`](Store::set_value)), which takes no memory either.
     pub fn retype_all(&mut self, moves: &[Move]) -> Result<(), AllocError>
-        ensures ok { OnOk result (self.new.entities ≡ after_moves self.old.entities moves.now) }
-        ensures err { OnErr result (self.new.entities ≡ self.old.entities) }
+        ensures tries { Tries self.old.entities (after_moves self.old.entities moves.now)
+            result self.new.entities }
         ensures nothing { moves.now ≡ [] → IsOk result }
     {
         let planned = self.layout.plan_moves(self.alloc, moves);

@@ -5,7 +5,7 @@ ghost use Rattle.eco_ids.specs.Indices.{living};
 ghost use Rattle.eco_ids.specs.declared.id.Id.{Id as Ids};
 ghost use Rattle.eco_tables.specs.Tables.{slot_of, table_in};
 ghost use Rattle.eco_archetypes.specs.Archetypes.{IsAllFound};
-ghost use Rattle.eco_store.specs.Holders.{passes, has_match, entities_whose, entities_with, is_holder};
+ghost use Rattle.eco_store.specs.Holders.{passes, has_match, entities_with, is_holder};
 ghost use Rattle.eco_store.specs.Retyping.{IsTypeWith};
 ghost use Rattle.eco_store.specs.Lent.{AreTablesOf};
 
@@ -76,18 +76,9 @@ impl Store {
         ensures some { OnErr result
             (IsTrue (list_any (λ p. has_match pattern p.1) (living self.now.entities))) }
     {
-        self.entities_by(&pattern)
-    }
-
-    // The living entities whose types pass the test, ascending.
-    fn entities_by<T: TypeTest>(&self, test: &T) -> Result<Vec<Entity>, AllocError>
-        ensures all { IfOk result (λ v. v.items ≡ entities_whose self.now.entities (T.test test.now)) }
-        ensures some { OnErr result
-            (IsTrue (list_any (λ p. passes (T.test test.now) p.1) (living self.now.entities))) }
-    {
         eco_ids::order::handles_are_ordered();
         eco_ids::order::ascending_lists_are_sets();
-        let found = self.tables_by(test)?;
+        let found = self.tables_by(&pattern)?;
         entities_in(self.alloc, found.tables, &found.slots)
     }
 

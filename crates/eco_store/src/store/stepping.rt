@@ -1,8 +1,8 @@
 //! An entity gets an id, or loses one that it has, or two entities do.
-ghost use Rattle.std.specs.Prelude.{◌≡◌, false, IsTrue, OnOk, OnErr};
-ghost use Rattle.eco_ids.specs.Indices.{changed, is_alive};
+ghost use Rattle.std.specs.Prelude.{◌≡◌, false, IsTrue};
+ghost use Rattle.eco_ids.specs.Indices.{is_alive};
 ghost use Rattle.eco_ids.specs.Order.{entity_eq};
-ghost use Rattle.eco_store.specs.Store.{stepped, with_toggled};
+ghost use Rattle.eco_store.specs.Store.{stepped, Tries};
 
 use crate::store::Store;
 use eco_ids::{Entity, Id};
@@ -13,18 +13,18 @@ impl Store {
     /// `Err` comes where memory is refused, and then no entity has changed.
     pub fn step(&mut self, e: Entity, id: Id) -> Result<(), AllocError>
         requires { IsTrue (is_alive self.old.entities e) }
-        ensures ok { OnOk result (self.new.entities ≡ changed self.old.entities e (with_toggled id)) }
-        ensures err { OnErr result (self.new.entities ≡ self.old.entities) }
+        ensures { Tries self.old.entities (stepped self.old.entities (e, id)) result self.new.entities }
     {
         let place = self.layout.place_of(e);
         let Some(led) = self.layout.archetypes.lead(place.table, id) else {
             return self.step_anew(e, id);
         };
-        let found = self
+        let to = self
             .layout
             .archetypes
-            .make_room(&self.layout.entities, led, 1);
-        self.layout.carry_to(e, place, found)
+            .make_room(&self.layout.entities, led, 1)?;
+        self.layout.carry(e, place, to);
+        Ok(())
     }
 
     // What `step` does, also where no edge is stored. An entity that stands alone in its table takes that along, where no other
@@ -33,18 +33,18 @@ impl Store {
     #[inline(never)]
     fn step_anew(&mut self, e: Entity, id: Id) -> Result<(), AllocError>
         requires { IsTrue (is_alive self.old.entities e) }
-        ensures ok { OnOk result (self.new.entities ≡ changed self.old.entities e (with_toggled id)) }
-        ensures err { OnErr result (self.new.entities ≡ self.old.entities) }
+        ensures { Tries self.old.entities (stepped self.old.entities (e, id)) result self.new.entities }
     {
         let place = self.layout.place_of(e);
         if self.layout.turn((e, id), place)? {
             return Ok(());
         }
-        let found = self
+        let to = self
             .layout
             .archetypes
-            .step(&self.layout.entities, place.table, id, 1);
-        self.layout.carry_to(e, place, found)
+            .step(&self.layout.entities, place.table, id, 1)?;
+        self.layout.carry(e, place, to);
+        Ok(())
     }
 
     /// Gives each of two entities the id beside it, with zeros, or takes that away where it has it, as [`step`](Store::step)
@@ -54,9 +54,8 @@ impl Store {
         requires first { IsTrue (is_alive self.old.entities first.0) }
         requires second { IsTrue (is_alive self.old.entities second.0) }
         requires apart { entity_eq second.0 first.0 ≡ false }
-        ensures ok { OnOk result
-            (self.new.entities ≡ stepped (stepped self.old.entities first) second) }
-        ensures err { OnErr result (self.new.entities ≡ self.old.entities) }
+        ensures { Tries self.old.entities (stepped (stepped self.old.entities first) second)
+            result self.new.entities }
     {
         let stepped = self.layout.step_both(first, second);
         self.layout.forget();

@@ -3,18 +3,17 @@ use Rattle.eco_store.proofs.Ranking.{first_sorted}
 use Rattle.eco_store.proofs.standing.alone.Goals.{then-not-ascend, else-not-ascend}
 use Rattle.eco_store.proofs.standing.alone.Goals as goal
 
-pub returns-clause-all : goal.returns-clause-all
-returns-clause-all c =
+pub returns : goal.returns
+returns c =
     let same : IsPermutation c.args.entities.now c.if-not-ascend.list.items = elim c.if-not-ascend.branch [
       | then-not-ascend w ↦ search rules
       | else-not-ascend w ↦ search (rules, IsPermutation-refl)
     ] in
-    rw c.alone.ensures (IsPermutation-map in_first c.args.entities.now c.if-not-ascend.list.items same)
-
-pub returns-clause-sorted : goal.returns-clause-sorted
-returns-clause-sorted c =
     let up : IsSorted entity_cmp c.if-not-ascend.list.items = elim c.if-not-ascend.branch [
       | then-not-ascend w ↦ search rules
       | else-not-ascend w ↦ search rules
     ] in
-    rw c.alone.ensures (first_sorted c.if-not-ascend.list.items up)
+    rw c.alone.ensures (record {
+      all = IsPermutation-map in_first c.args.entities.now c.if-not-ascend.list.items same;
+      sorted = first_sorted c.if-not-ascend.list.items up;
+    })

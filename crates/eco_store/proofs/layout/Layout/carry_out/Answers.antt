@@ -1,33 +1,27 @@
-use Rattle.eco_store.proofs.Common.{sym, subst, ◌∙◌, after_changes, IsOneWay, AreNamed}
-use Rattle.eco_store.proofs.Thinning.{plan_thinned, room_thinned, same_changes}
+use Rattle.eco_store.proofs.Common.{sym, subst, ◌∙◌, map, after_changes, change_of, IsOneWay, AreTransfersReady}
+use Rattle.eco_store.proofs.Thinning.{ready_thinned, same_changes}
 use Rattle.eco_store.proofs.layout.Layout.carry_out.Goals as goal
 
-pub move_all-requires-clause-named : goal.move_all-requires-clause-named
-move_all-requires-clause-named c = subst (λ slots. AreNamed slots c.args.transfers.now) (sym c.kill_all.ensures.loses.targets) c.requires.named
-
-pub move_all-requires-clause-plan : goal.move_all-requires-clause-plan
-move_all-requires-clause-plan c =
+pub move_all-requires-clause-ready : goal.move_all-requires-clause-ready
+move_all-requires-clause-ready c =
     let l = c.args.self.now in
-    plan_thinned l.archetypes c.kill_all.new.self.archetypes l.staying.targets c.args.transfers.now c.kill_all.ensures.loses.thins
-    c.requires.named _ c.requires.plan
+    let s1 = c.kill_all.new.self.archetypes in
+    let ts = c.args.transfers.now in
+    let loses = c.kill_all.ensures.loses in
+    subst (λ targets. AreTransfersReady s1 targets ts (map (change_of s1) ts)) (sym loses.targets)
+    (ready_thinned l.archetypes s1 l.staying.targets ts loses.thins c.requires.ready.named _ c.requires.ready)
 
 pub move_all-requires-clause-one_way : goal.move_all-requires-clause-one_way
 move_all-requires-clause-one_way c =
     let l = c.args.self.now in
     subst IsOneWay
     (sym (same_changes l.archetypes c.kill_all.new.self.archetypes l.staying.targets c.args.transfers.now c.kill_all.ensures.loses.thins
-    c.requires.named)) c.requires.one_way
-
-pub move_all-requires-clause-room : goal.move_all-requires-clause-room
-move_all-requires-clause-room c =
-    let l = c.args.self.now in
-    room_thinned l.archetypes c.kill_all.new.self.archetypes l.staying.targets c.args.transfers.now c.kill_all.ensures.loses.thins
-    c.requires.named c.requires.room
+    c.requires.ready.named)) c.requires.one_way
 
 pub returns-clause-seen : goal.returns-clause-seen
 returns-clause-seen c =
     let l = c.args.self.now in
     let types =
     same_changes l.archetypes c.kill_all.new.self.archetypes l.staying.targets c.args.transfers.now c.kill_all.ensures.loses.thins
-    c.requires.named in
+    c.requires.ready.named in
     c.move_all.ensures.seen ∙ (λ t. after_changes (c.kill_all.ensures.seen t) (types t))

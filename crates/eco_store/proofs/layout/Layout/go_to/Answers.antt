@@ -27,7 +27,8 @@ returns-then-place-to-clause-seen c =
     let s = l.archetypes in
     let own = sym c.place_of.ensures ∙ c.in-Some.is in
     let had = subst AllHaveIds c.tables-tables.ensures.same c.rows_have_ids.ensures in
-    let at = subst (λ x. slot_of x c.args.to ≡ Some c.unwrap.result.now) c.tables-tables.ensures.same (sym c.get.ensures ∙ ap option_copied c.unwrap.ensures) in
+    let at = subst (λ x. slot_of x c.args.to ≡ Some c.unwrap.result.now) c.tables-tables.ensures.same
+    (sym c.get.ensures ∙ ap option_copied c.unwrap.ensures) in
     let ids = c.type_list.ensures.ids ∙ sym (ap (λ o. (unwrap_or o no_table).ids) at) in
     own_again (seen l) c.args.e (table_in s c.args.to).ids
     (standing_type l.entities s c.args.e c.in-Some.place c.requires.laid.store own had ∙ ap (λ n. Some (table_in s n).ids) c.if-place-to.true)

@@ -10,9 +10,9 @@ from_there ns i within = rw add-one (drop-cons ns i 0 within)
 pub loop-place-init : goal.loop-place-init
 loop-place-init c = record {
   laid = c.requires.laid;
-  named = c.requires.named;
-  typed = c.requires.typed;
-  room = c.requires.room;
+  named = c.requires.ready.named;
+  typed = c.requires.ready.typed;
+  room = c.requires.ready.room;
   seen = refl;
 }
 
@@ -20,7 +20,8 @@ pub go_to-requires-clause-there : goal.go_to-requires-clause-there
 go_to-requires-clause-there c =
     let m = c.index-moves-place.result in
     there_as_typed c.loop-place.self.archetypes (get_or c.args.slots.now c.loop-place.place 0) m.type_list
-    (subst (λ (x : Move). type_at c.loop-place.self.archetypes (get_or c.args.slots.now c.loop-place.place 0) ≡ Some x.type_list) (sym c.index-moves-place.is)
+    (subst (λ (x : Move). type_at c.loop-place.self.archetypes (get_or c.args.slots.now c.loop-place.place 0) ≡ Some x.type_list)
+    (sym c.index-moves-place.is)
     (typed_at c.loop-place.self.archetypes c.args.moves.now c.args.slots.now c.loop-place.place 0 _ c.loop-place.invariant.typed c.loop-place-test.true))
 
 pub go_to-requires-clause-room : goal.go_to-requires-clause-room

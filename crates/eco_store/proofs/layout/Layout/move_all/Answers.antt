@@ -20,7 +20,7 @@ move_rows-requires-clause-source c =
     let none : Transfer = record { from = 0; to = 0 } in
     let t = get_or c.args.transfers.now i none in
     still_there c.args.self.now.archetypes c.loop-transfer.self.archetypes t.from (c.loop-transfer.invariant.types t.from)
-    (c.requires.plan.sources i none c.loop-transfer-test.true)
+    (c.requires.ready.plan.sources i none c.loop-transfer-test.true)
 
 pub move_rows-requires-clause-target : goal.move_rows-requires-clause-target
 move_rows-requires-clause-target c =
@@ -28,7 +28,7 @@ move_rows-requires-clause-target c =
     let none : Transfer = record { from = 0; to = 0 } in
     let t = get_or c.args.transfers.now i none in
     still_there c.args.self.now.archetypes c.loop-transfer.self.archetypes t.to (c.loop-transfer.invariant.types t.to)
-    (c.requires.plan.targets i none c.loop-transfer-test.true)
+    (c.requires.ready.plan.targets i none c.loop-transfer-test.true)
 
 pub move_rows-requires-clause-room : goal.move_rows-requires-clause-room
 move_rows-requires-clause-room c =
@@ -70,4 +70,4 @@ move_rows-requires-clause-named c =
     let none : Transfer = record { from = 0; to = 0 } in
     let t = get_or c.args.transfers.now c.loop-transfer.transfer-index none in
     subst (λ (q : StayingState). IsNamed q.targets t) (sym c.loop-transfer.invariant.staying)
-    (c.requires.named c.loop-transfer.transfer-index none c.loop-transfer-test.true)
+    (c.requires.ready.named c.loop-transfer.transfer-index none c.loop-transfer-test.true)

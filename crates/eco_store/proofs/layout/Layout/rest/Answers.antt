@@ -6,7 +6,8 @@ use Rattle.eco_store.proofs.Rowless.{among_last, among_more, rowless_rested, row
 use Rattle.eco_store.proofs.layout.Layout.rest.Goals as goal
 
 -- the targets are the same
-same_among : (n : ℕ) (p q : StayingState) (idle : List ℕ) (r b : Bool) → r ≡ list_any (nat_eq n) q.targets → q ≡ record p { idle = idle } → r ≡ b
+same_among : (n : ℕ) (p q : StayingState) (idle : List ℕ) (r b : Bool) → r ≡ list_any (nat_eq n) q.targets → q ≡ record p { idle = idle }
+    → r ≡ b
     → list_any (nat_eq n) p.targets ≡ b
 same_among n p q idle r b test same is = sym (test ∙ ap (λ (x : StayingState). list_any (nat_eq n) x.targets) same) ∙ is
 

@@ -1,4 +1,4 @@
-use Rattle.eco_store.proofs.Common.{subst, sym, ◌≡◌, IsTrue, OnOk, entity_eq, not_both, entity_eq_itself, seen}
+use Rattle.eco_store.proofs.Common.{subst, sym, IsTrue, Tries, entity_eq, not_both, entity_eq_itself, seen}
 use Rattle.eco_store.proofs.Coupled.{steps_other_way}
 use Rattle.eco_store.proofs.layout.Layout.step_both.Goals as goal
 
@@ -10,9 +10,8 @@ returns-else-is_dearer c =
     let called = c.step_in_turn-else-is_dearer in
     record {
       laid = called.ensures.laid;
-      ok =
-          subst (λ v. OnOk called.result (seen called.new.self ≡ v))
+      tries =
+          subst (λ v. Tries (seen l) v called.result (seen called.new.self))
           (steps_other_way l.entities l.archetypes b a c.requires.second c.requires.first
-          (λ same. not_both (subst (λ x. IsTrue (entity_eq x a.0)) (sym same) (entity_eq_itself a.0)) c.requires.apart)) called.ensures.ok;
-      err = called.ensures.err;
+          (λ same. not_both (subst (λ x. IsTrue (entity_eq x a.0)) (sym same) (entity_eq_itself a.0)) c.requires.apart)) called.ensures.tries;
     }

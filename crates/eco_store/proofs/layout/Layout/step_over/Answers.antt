@@ -1,6 +1,6 @@
-use Rattle.eco_store.proofs.Common.{◌∙◌, arith, err_from_is_err_and, toggled, there_as_typed, typed_table, err_says, changed, seen, with_type}
+use Rattle.eco_store.proofs.Common.{◌∙◌, arith, err_from_is_err_and, toggled, there_as_typed, typed_table, changed, seen, with_type}
 use Rattle.eco_store.proofs.Coupled.{move_leaves}
-use Rattle.eco_store.proofs.Laid.{plans_seen}
+use Rattle.eco_store.proofs.Laid.{plans_seen, tried_none}
 use Rattle.eco_store.proofs.Stepping.{leads_to}
 use Rattle.eco_store.proofs.layout.Layout.step_over.Goals as goal
 
@@ -16,8 +16,7 @@ returns-in_err-to c =
     record {
       steps = record {
         laid = c.step_target.ensures.plans.laid;
-        ok = rw p.1 tt;
-        err = err_says c.from_residual.result (plans_seen c.args.self.now c.step_target.new.self c.step_target.ensures.plans);
+        tries = tried_none _ _ c.from_residual.result _ _ p.1 (plans_seen c.args.self.now c.step_target.new.self c.step_target.ensures.plans);
       };
       kept = rw p.1 tt;
     }
@@ -30,10 +29,12 @@ returns c =
     record {
       steps = record {
         laid = c.go_to.ensures.carries.laid;
-        ok =
-            c.go_to.ensures.seen ∙ (λ t. changed (plans_seen l m c.step_target.ensures.plans t) c.args.step.0 (with_type (typed t)))
-            ∙ leads_to (seen l) c.args.step.0 _ c.place_of-place.ensures.typed (λ ids. toggled ids c.args.step.1);
-        err = tt;
+        tries = record {
+          ok =
+              c.go_to.ensures.seen ∙ (λ t. changed (plans_seen l m c.step_target.ensures.plans t) c.args.step.0 (with_type (typed t)))
+              ∙ leads_to (seen l) c.args.step.0 _ c.place_of-place.ensures.typed (λ ids. toggled ids c.args.step.1);
+          err = tt;
+        };
       };
       kept =
           move_leaves l.archetypes m.archetypes c.go_to.new.self.archetypes c.args.kept c.in_ok-to.to m.staying.targets

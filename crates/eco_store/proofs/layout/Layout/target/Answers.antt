@@ -1,6 +1,6 @@
-use Rattle.eco_store.proofs.Common.{◌∙◌, ◌∷◌, refl, all_staying, then_rows}
+use Rattle.eco_store.proofs.Common.{◌∙◌, ◌∷◌, refl, sym, all_staying, then_rows}
 use Rattle.eco_store.proofs.Laid.{plans_same, plans_target}
-use Rattle.eco_store.proofs.Targets.{is_targeted}
+use Rattle.eco_store.proofs.Targets.{is_targeted, room_waived}
 use Rattle.eco_store.proofs.Rowless.{rowless_same}
 use Rattle.eco_store.proofs.layout.Layout.target.Goals as goal
 
@@ -44,3 +44,11 @@ returns-in-Ok-true-clause-kept c = λ n ids was. c.waive.ensures.types n ∙ c.i
 
 pub returns-in-Ok-false-clause-named : goal.returns-in-Ok-false-clause-named
 returns-in-Ok-false-clause-named c = rw c.in-Ok-false.ensures.ok (is_targeted c.args.self.now.staying c.in_ok-slot.slot)
+
+pub returns-in-Ok-true-clause-room : goal.returns-in-Ok-true-clause-room
+returns-in-Ok-true-clause-room c =
+    room_waived c.args.self.now.archetypes c.room_for.new.self c.waive.new.self c.args.self.now.staying.targets c.in_ok-slot.slot _ c.in_ok-slot.ensures.kept
+    (sym c.in-Ok-true.field-0-test ∙ c.in-Ok-true.ensures.added) c.waive.ensures.sets
+
+pub returns-in-Ok-false-clause-room : goal.returns-in-Ok-false-clause-room
+returns-in-Ok-false-clause-room c = λ n among. c.in_ok-slot.ensures.kept n

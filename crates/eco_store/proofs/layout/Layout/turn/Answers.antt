@@ -1,4 +1,4 @@
-use Rattle.eco_store.proofs.Common.{refl, subst, AllHaveIds, there_by_row}
+use Rattle.eco_store.proofs.Common.{subst, AllHaveIds, there_by_row}
 use Rattle.eco_store.proofs.Coupled.{may_turn}
 use Rattle.eco_store.proofs.StoreChanges.{row_within}
 use Rattle.eco_store.proofs.layout.Layout.turn.Goals as goal
@@ -12,7 +12,5 @@ step_alone-requires c =
 pub returns : goal.returns
 returns c =
     let had = subst AllHaveIds c.tables.ensures.same c.rows_have_ids.ensures in
-    let turns =
     may_turn c.args.self.now c.step_alone.new.self c.args.step.0 c.args.place c.args.step.1 c.requires.laid c.requires.own had
-    c.step_alone.ensures.widths c.step_alone.result c.step_alone.ensures.ok c.step_alone.ensures.err in
-    record { laid = turns.laid; entities = refl; staying = refl; took = turns.took; others = turns.others; err = turns.err }
+    c.step_alone.ensures.widths c.step_alone.result c.step_alone.ensures.ok c.step_alone.ensures.err

@@ -1,32 +1,41 @@
-use Rattle.eco_store.proofs.Common.{◌∙◌, exchanged, seen, with_exchanged}
-use Rattle.eco_store.proofs.Laid.{sought_err, sought_laid, sought_ok, still_settled}
+use Rattle.eco_store.proofs.Common.{◌∙◌, err_from_is_err_and, exchanged, seen}
+use Rattle.eco_store.proofs.Laid.{sought_laid, sought_seen, sought_settled, still_settled, tried_none}
 use Rattle.eco_store.proofs.Stepping.{has_typed, leads_to}
+use Rattle.eco_store.proofs.StoreChanges.{same_read}
 use Rattle.eco_store.proofs.store.Store.exchange.Goals as goal
 
-pub exchange-found-requires-clause-there : goal.exchange-found-requires-clause-there
-exchange-found-requires-clause-there c =
+pub exchange-requires-clause-there : goal.exchange-requires-clause-there
+exchange-requires-clause-there c =
     has_typed (seen c.self.inside.layout) c.args.e _ c.place_of-place.ensures.typed c.args.leaving ∙ (rw (← c.self.view_is) at c.requires.there)
 
-pub exchange-found-requires-clause-absent : goal.exchange-found-requires-clause-absent
-exchange-found-requires-clause-absent c =
+pub exchange-requires-clause-absent : goal.exchange-requires-clause-absent
+exchange-requires-clause-absent c =
     has_typed (seen c.self.inside.layout) c.args.e _ c.place_of-place.ensures.typed c.args.coming ∙ (rw (← c.self.view_is) at c.requires.absent)
 
-pub carry_to-requires-clause-laid : goal.carry_to-requires-clause-laid
-carry_to-requires-clause-laid c =
-    let tables = c.exchange-found.ensures in
-    sought_laid c.self.inside.layout _ tables.rows c.exchange-found.result tables.rowless tables.widths c.self.invariant.laid
+pub carry-requires-clause-laid : goal.carry-requires-clause-laid
+carry-requires-clause-laid c =
+    sought_laid c.self.inside.layout _ c.exchange.ensures.rows c.self.invariant.laid c.exchange.ensures.widths c.in_ok-to.to c.in_ok-to.ensures.rowless
 
 pub invariant_of-self : goal.invariant_of-self
-invariant_of-self c = still_settled c.self.inside.layout _ c.carry_to.ensures.staying c.self.invariant c.carry_to.ensures.laid
+invariant_of-self c =
+    sought_settled c.self.inside.layout _ c.exchange.ensures.rows c.self.invariant c.exchange.ensures.widths c.in_err-to.ensures.rowless
 
-pub returns-clause-ok : goal.returns-clause-ok
-returns-clause-ok c =
+pub invariant_of-self-2 : goal.invariant_of-self-2
+invariant_of-self-2 c = still_settled c.self.inside.layout _ c.carry.ensures.carries.staying c.self.invariant c.carry.ensures.carries.laid
+
+pub returns-in_err-to : goal.returns-in_err-to
+returns-in_err-to c =
     let l = c.self.inside.layout in
+    let p = err_from_is_err_and c.from_residual.result c.from_residual.ensures.1 in
     rw (← c.self.view_is)
-    (sought_ok l _ c.exchange-found.ensures.rows c.carry_to.result _ c.args.e _ (with_exchanged c.args.leaving c.args.coming)
-    (leads_to (seen l) c.args.e _ c.place_of-place.ensures.typed (λ ids. exchanged ids c.args.leaving c.args.coming))
-    (c.carry_to.ensures.ok _ c.exchange-found.ensures.typed))
+    (tried_none _ _ c.from_residual.result _ _ p.1 (same_read l.entities l.archetypes _ c.exchange.ensures.rows))
 
-pub returns-clause-err : goal.returns-clause-err
-returns-clause-err c =
-    rw (← c.self.view_is) (sought_err c.self.inside.layout _ c.exchange-found.ensures.rows c.carry_to.result _ c.carry_to.ensures.err)
+pub returns : goal.returns
+returns c =
+    let l = c.self.inside.layout in
+    rw (← c.self.view_is) (record {
+      ok =
+          sought_seen l _ c.exchange.ensures.rows _ c.in_ok-to.to c.args.e _ c.in_ok-to.ensures.typed c.carry.ensures.seen
+          ∙ leads_to (seen l) c.args.e _ c.place_of-place.ensures.typed (λ ids. exchanged ids c.args.leaving c.args.coming);
+      err = tt;
+    })

@@ -1,37 +1,44 @@
-use Rattle.eco_store.proofs.Common.{◌≢◌, ◌<◌, sym, ap, ◌∙◌, subst, IfOk-weaker, table_in, toggled, type_at, seen, with_toggled}
-use Rattle.eco_store.proofs.Laid.{sought_err, sought_laid, sought_ok, still_settled}
-use Rattle.eco_store.proofs.Sorting.{both_ok}
+use Rattle.eco_store.proofs.Common.{◌≢◌, ◌<◌, sym, ap, ◌∙◌, subst, err_from_is_err_and, arith, table_in, toggled, type_at, seen}
+use Rattle.eco_store.proofs.Laid.{sought_laid, sought_seen, sought_settled, still_settled, tried_none}
 use Rattle.eco_store.proofs.Stepping.{leads_to}
+use Rattle.eco_store.proofs.StoreChanges.{same_read}
 use Rattle.eco_store.proofs.store.Store.step.Goals as goal
 
-pub carry_to-requires-clause-laid : goal.carry_to-requires-clause-laid
-carry_to-requires-clause-laid c =
-    let tables = c.make_room-found.ensures in
-    sought_laid c.self.inside.layout _ tables.rows c.make_room-found.result tables.rowless tables.widths c.self.invariant.laid
+pub carry-requires-clause-laid : goal.carry-requires-clause-laid
+carry-requires-clause-laid c =
+    let tables = c.make_room.ensures in
+    sought_laid c.self.inside.layout _ tables.rows c.self.invariant.laid tables.widths c.in_ok-to.to c.in_ok-to.ensures.rowless
 
-pub carry_to-requires-clause-apart : goal.carry_to-requires-clause-apart
-carry_to-requires-clause-apart c =
-    IfOk-weaker c.make_room-found.result _ _ (λ to same. subst (λ n. c.place_of-place.result.table ≢ n) (sym same) c.in-Some.ensures.apart)
-    c.make_room-found.ensures.same
+pub carry-requires-clause-apart : goal.carry-requires-clause-apart
+carry-requires-clause-apart c = subst (λ n. c.place_of-place.result.table ≢ n) (sym c.in_ok-to.ensures.same) c.in-Some.ensures.apart
 
-pub carry_to-requires-clause-room : goal.carry_to-requires-clause-room
-carry_to-requires-clause-room c =
-    both_ok _ _ _ (λ to same room. subst (λ n. 0 < (table_in c.make_room-found.new.self n).room) (sym same) room) c.make_room-found.result
-    c.make_room-found.ensures.same c.make_room-found.ensures.room
+pub carry-requires-clause-room : goal.carry-requires-clause-room
+carry-requires-clause-room c =
+    subst (λ n. 0 < (table_in c.make_room.new.self n).room) (sym c.in_ok-to.ensures.same)
+    (let room = c.in_ok-to.ensures.room in omega (arith, room))
 
 pub invariant_of-self : goal.invariant_of-self
-invariant_of-self c = still_settled c.self.inside.layout _ c.carry_to.ensures.staying c.self.invariant c.carry_to.ensures.laid
+invariant_of-self c =
+    sought_settled c.self.inside.layout _ c.make_room.ensures.rows c.self.invariant c.make_room.ensures.widths c.in_err-to.ensures.rowless
 
-pub returns-clause-ok : goal.returns-clause-ok
-returns-clause-ok c =
+pub invariant_of-self-2 : goal.invariant_of-self-2
+invariant_of-self-2 c = still_settled c.self.inside.layout _ c.carry.ensures.carries.staying c.self.invariant c.carry.ensures.carries.laid
+
+pub returns-in_err-to : goal.returns-in_err-to
+returns-in_err-to c =
     let l = c.self.inside.layout in
-    let s1 = c.make_room-found.new.self in
+    let p = err_from_is_err_and c.from_residual.result c.from_residual.ensures.1 in
     rw (← c.self.view_is)
-    (sought_ok l s1 c.make_room-found.ensures.rows c.carry_to.result _ c.args.e _ (with_toggled c.args.id)
-    (leads_to (seen l) c.args.e _ c.place_of-place.ensures.typed (λ ids. toggled ids c.args.id))
-    (c.carry_to.ensures.ok _ (IfOk-weaker c.make_room-found.result _ _
-    (λ to same. ap (type_at s1) same ∙ c.make_room-found.ensures.typed ∙ c.in-Some.ensures.typed) c.make_room-found.ensures.same)))
+    (tried_none _ _ c.from_residual.result _ _ p.1 (same_read l.entities l.archetypes _ c.make_room.ensures.rows))
 
-pub returns-clause-err : goal.returns-clause-err
-returns-clause-err c =
-    rw (← c.self.view_is) (sought_err c.self.inside.layout _ c.make_room-found.ensures.rows c.carry_to.result _ c.carry_to.ensures.err)
+pub returns : goal.returns
+returns c =
+    let l = c.self.inside.layout in
+    let s1 = c.make_room.new.self in
+    let typed = ap (type_at s1) c.in_ok-to.ensures.same ∙ c.make_room.ensures.typed ∙ c.in-Some.ensures.typed in
+    rw (← c.self.view_is) (record {
+      ok =
+          sought_seen l s1 c.make_room.ensures.rows _ c.in_ok-to.to c.args.e _ typed c.carry.ensures.seen
+          ∙ leads_to (seen l) c.args.e _ c.place_of-place.ensures.typed (λ ids. toggled ids c.args.id);
+      err = tt;
+    })

@@ -1,15 +1,10 @@
-use Rattle.eco_store.proofs.Common.{◌≡◌, sym, subst, OnOk, OnErr, seen, stepped}
+use Rattle.eco_store.proofs.Common.{sym, subst, Tries, seen, stepped}
 use Rattle.eco_store.proofs.store.Store.step_both.Goals as goal
 
-pub returns-clause-ok : goal.returns-clause-ok
-returns-clause-ok c =
+pub returns : goal.returns
+returns c =
+    let l = c.self.inside.layout in
     let called = c.step_both-stepped in
     rw (← c.self.view_is)
-    (subst (λ v. OnOk called.result (v ≡ stepped (stepped (seen c.self.inside.layout) c.args.first) c.args.second))
-    (sym c.forget.ensures.same) called.ensures.ok)
-
-pub returns-clause-err : goal.returns-clause-err
-returns-clause-err c =
-    let called = c.step_both-stepped in
-    rw (← c.self.view_is)
-    (subst (λ v. OnErr called.result (v ≡ seen c.self.inside.layout)) (sym c.forget.ensures.same) called.ensures.err)
+    (subst (λ v. Tries (seen l) (stepped (stepped (seen l) c.args.first) c.args.second) called.result v) (sym c.forget.ensures.same)
+    called.ensures.tries)

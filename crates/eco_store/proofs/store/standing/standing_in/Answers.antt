@@ -1,7 +1,6 @@
 use Rattle.eco_store.proofs.Common.{map, ap, ◌∙◌, IfOk-weaker, read, Standing}
 use Rattle.eco_store.proofs.IndexWalk.{walked_placed, walked_whose}
 use Rattle.eco_store.proofs.Ranking.{ranked_placed, ranked_whose}
-use Rattle.eco_store.proofs.Sorting.{both_ok}
 use Rattle.eco_store.proofs.Values.{shows}
 use Rattle.eco_store.proofs.store.standing.standing_in.Goals as goal
 
@@ -22,17 +21,17 @@ returns-in_ok-list-clause-placed c =
 pub returns-else-slots-gt1-clause-all : goal.returns-else-slots-gt1-clause-all
 returns-else-slots-gt1-clause-all c =
     let s = c.args.tables.now in
-    both_ok _ _ _
-    (λ v moved sorted test found.
+    IfOk-weaker c.ranked.result _ _
+    (λ v are test found.
     ranked_whose (read c.args.entities.now s) s (shows c.args.entities.now s c.requires.store c.rows_have_ids.ensures)
     c.handles_are_ordered.ensures.total c.handles_are_ordered.ensures.ties
-    c.ascending_lists_are_sets.ensures.handles test c.args.slots.now found.listed found.distinct v moved sorted)
-    c.ranked.result c.ranked.ensures.all c.ranked.ensures.sorted
+    c.ascending_lists_are_sets.ensures.handles test c.args.slots.now found.listed found.distinct v are)
+    c.ranked.ensures.ranked
 
 pub returns-else-slots-gt1-clause-placed : goal.returns-else-slots-gt1-clause-placed
 returns-else-slots-gt1-clause-placed c =
     let s = c.args.tables.now in
     IfOk-weaker c.ranked.result _ _
-    (λ v moved.
-    ranked_placed (read c.args.entities.now s) s (shows c.args.entities.now s c.requires.store c.rows_have_ids.ensures) c.args.slots.now v moved)
-    c.ranked.ensures.all
+    (λ v are.
+    ranked_placed (read c.args.entities.now s) s (shows c.args.entities.now s c.requires.store c.rows_have_ids.ensures) c.args.slots.now v are.all)
+    c.ranked.ensures.ranked

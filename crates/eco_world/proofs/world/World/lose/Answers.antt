@@ -12,9 +12,9 @@ returns-clause-ok c =
     on_ok c.retype_all.result (λ is. ap (λ x. world_with edition x qs) is
     ∙ lost_all edition v qs c.args.self.now c.is_lawful.ensures c.self.view_is ms (goes_too c.args.self.now (takes c.args.loss))
     c.args.losers.now (c.deref.ensures.value ∙ c.in_ok-moves.ensures) c.requires.losers)
-    c.retype_all.ensures.ok
+    c.retype_all.ensures.tries.ok
 
 pub invariant_of-self : goal.invariant_of-self
 invariant_of-self c =
     by_result IsLawful (λ x. world_with c.self.inside.edition x (asked_by c.self.inside.queries.items)) c.retype_all.result c.self.inside.store.entities _ _
-    (returns-clause-ok c) c.retype_all.ensures.err c.requires.lawful c.self.invariant
+    (returns-clause-ok c) c.retype_all.ensures.tries.err c.requires.lawful c.self.invariant

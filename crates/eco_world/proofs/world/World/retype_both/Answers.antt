@@ -18,9 +18,9 @@ returns-clause-ok c =
     ∙ both_moved edition v qs w c.is_lawful.ensures c.self.view_is (first ∷ second ∷ []) e
     (type_meant (type_of w e) c.args.id c.args.target) m (apart m.0 e c.requires.other)
     (λ t. record { entity = e; type_list = c.in_ok-ids.ensures t } ∷ record { entity = m.0; type_list = c.in_ok-theirs.ensures t } ∷ []))
-    c.retype_all.ensures.ok
+    c.retype_all.ensures.tries.ok
 
 pub invariant_of-self : goal.invariant_of-self
 invariant_of-self c =
     by_result IsLawful (λ x. world_with c.self.inside.edition x (asked_by c.self.inside.queries.items)) c.retype_all.result c.self.inside.store.entities _ _
-    (returns-clause-ok c) c.retype_all.ensures.err c.requires.lawful c.self.invariant
+    (returns-clause-ok c) c.retype_all.ensures.tries.err c.requires.lawful c.self.invariant

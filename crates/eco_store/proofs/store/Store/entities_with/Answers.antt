@@ -1,12 +1,12 @@
-use Rattle.eco_store.proofs.Common.{sym, ◌∙◌, slot_of, on_err}
+use Rattle.eco_store.proofs.Common.{sym, ◌∙◌, list_any, pattern_matches, slot_of, on_err}
 use Rattle.eco_store.proofs.Holders.{found_matches, some_listed, standing_apart, standing_whose, whose_ascend}
 use Rattle.eco_store.proofs.Sorting.{both_ok, sorted_is}
-use Rattle.eco_store.proofs.store.Store.entities_by.Goals as goal
+use Rattle.eco_store.proofs.store.Store.entities_with.Goals as goal
 
 pub returns-clause-all : goal.returns-clause-all
-returns-clause-all g c =
+returns-clause-all c =
     let found = c.in_ok-found.found in
-    let test = g.T.TypeTest.test c.args.test.now in
+    let test = list_any (pattern_matches c.args.pattern) in
     let shown = c.in_ok-found.ensures.lent.shown in
     let all = c.in_ok-found.ensures.found in
     both_ok _ _ _
@@ -19,9 +19,9 @@ returns-clause-all g c =
     c.entities_in.result (rw c.deref.ensures.value at c.entities_in.ensures.all) c.entities_in.ensures.sorted
 
 pub returns-clause-some : goal.returns-clause-some
-returns-clause-some g c =
+returns-clause-some c =
     let found = c.in_ok-found.found in
     on_err c.entities_in.result
-    (some_listed c.args.self.now.entities found.tables.now (g.T.TypeTest.test c.args.test.now) c.in_ok-found.ensures.lent.shown found.slots.items
+    (some_listed c.args.self.now.entities found.tables.now (list_any (pattern_matches c.args.pattern)) c.in_ok-found.ensures.lent.shown found.slots.items
     c.in_ok-found.ensures.found.listed)
     (rw c.deref.ensures.value at c.entities_in.ensures.some)

@@ -1,0 +1,93 @@
+//! Many names are in use, so that some find their bucket full.
+use eco_entities::EntityIndex;
+use eco_ids::Entity;
+use std::alloc::{AllocError, Global};
+
+// So many that some buckets of seven cells are full, where there are four names for a bucket.
+const MANY: u32 = 500;
+
+// The name of this number.
+fn name_of(alloc: Global, number: u32) -> Result<String, AllocError> {
+    format!(in alloc; "entity_{number}")
+}
+
+// Whether the names, those of even numbers alone or all, are given to the entities that are made next: those of the same
+// indices at a generation.
+fn are_given(index: &mut EntityIndex, alloc: Global, even_alone: bool, generation: u16) -> bool {
+    for number in 0..MANY {
+        if even_alone && number % 2 == 1 {
+            continue;
+        }
+        let made = match name_of(alloc, number) {
+            Ok(name) => index.create(Some(name.as_str()), None).ok(),
+            Err(_) => None,
+        };
+        let expected = Entity {
+            index: number,
+            generation,
+        };
+        if made != Some(expected) {
+            return false;
+        }
+    }
+    true
+}
+
+// Whether the name of a number finds an entity of this index at the generation, or nobody.
+fn finds(index: &EntityIndex, alloc: Global, number: u32, generation: Option<u16>) -> bool {
+    let expected = generation.map(|generation| Entity {
+        index: number,
+        generation,
+    });
+    match name_of(alloc, number) {
+        Ok(name) => index.lookup(name.as_str()) == expected,
+        Err(_) => false,
+    }
+}
+
+// Whether each even number's name finds its index at the one generation, or nobody, and each odd number's at the first.
+fn all_find(index: &EntityIndex, alloc: Global, even: Option<u16>) -> bool {
+    for number in 0..MANY {
+        let generation = if number % 2 == 0 { even } else { Some(0) };
+        if !finds(index, alloc, number, generation) {
+            return false;
+        }
+    }
+    true
+}
+
+// Kills the entities of even indices, at their first generation.
+fn kill_even(index: &mut EntityIndex) {
+    for number in (0..MANY).step_by(2) {
+        let entity = Entity {
+            index: number,
+            generation: 0,
+        };
+        if index.is_alive(entity) {
+            index.kill(entity);
+        }
+    }
+}
+
+// Whether names are found, given up and given again, also in a copy.
+fn are_kept_apart(alloc: Global) -> bool {
+    let mut index = EntityIndex::new(alloc, MANY);
+    if !are_given(&mut index, alloc, false, 0) || !all_find(&index, alloc, Some(0)) {
+        return false;
+    }
+    let Ok(copy) = index.try_copy() else {
+        return false;
+    };
+    kill_even(&mut index);
+    let are_free = all_find(&index, alloc, None);
+    let are_given_again = are_given(&mut index, alloc, true, 1);
+    are_free
+        && are_given_again
+        && all_find(&index, alloc, Some(1))
+        && all_find(&copy, alloc, Some(0))
+}
+
+#[test]
+fn many_names_are_kept_apart(rt: HostRuntime) {
+    assert!(rt; are_kept_apart(rt.alloc()));
+}

@@ -293,3 +293,30 @@ module _ (bearers : List Bearer) (cells : List Cell) (key : Key) (place : ℕ) (
   pub passed_at : leads_to bearers key (get_or cells place d) ≡ Some false
       → (text : List ℕ) → is_key_of text key ≡ true → found_by bearers (drop (place + 1) cells) text ≡ found_by bearers cells text
   passed_at = cell_passed bearers cells key place (get_or cells place d) low at_default before
+
+-- the cell at a place, and those after it
+pub cells_more : (bearers : List Bearer) (cells : List Cell) (i : ℕ) → i < length cells → (d : Cell) (text : List ℕ)
+    → found_by bearers (drop i cells) text ≡ option_or (found_by bearers (get_or cells i d ∷ []) text) (found_by bearers (drop (i + 1) cells) text)
+cells_more bearers cells i low d text =
+    at_drop_more (λ cs. found_by bearers cs text) cells i d low
+    ∙ ap (λ o. option_or o (found_by bearers (drop (i + 1) cells) text)) (sym (or_none (at_cell bearers (get_or cells i d) text)))
+
+no_more : {X : Type 0} (xs : List X) → length xs ≡ 0 → xs ≡ []
+no_more [] h = refl
+no_more (x ∷ xs) h = absurd (omega (arith, h))
+
+-- one more cell, where the tree is empty
+pub cell_kept : (bearers : List Bearer) (cells cells' : List Cell) (spilled : List (Key × Entity)) (old : Kept) (c : Cell) → (cells, spilled) ≡ old
+    → cells' ≡ cells ++ c ∷ [] → length spilled ≡ 0
+    → Gathers (found_in bearers old) (found_by bearers (c ∷ [])) (found_in bearers (cells', spilled))
+cell_kept bearers cells cells' spilled old c view pushed empty = record {
+  all = λ text.
+      let none : found_spilled spilled text ≡ None = ap (λ es. found_spilled es text) (no_more spilled empty) in
+      ap (option_or (found_by bearers cells' text)) none
+      ∙ (or_none (found_by bearers cells' text)
+      ∙ (ap (λ cs. found_by bearers cs text) pushed
+      ∙ (found_more bearers text cells (c ∷ [])
+      ∙ ap (λ o. option_or o (found_by bearers (c ∷ []) text))
+      (sym (or_none (found_by bearers cells text))
+      ∙ (ap (option_or (found_by bearers cells text)) (sym none) ∙ ap (λ k. found_in bearers k text) view)))));
+}

@@ -9,6 +9,8 @@ use Rattle.eco_entities.proofs.Common.{Entity, ChangesAt, KeepsAnswers}
 use Rattle.eco_entities.proofs.Common.{AllPoint, Bearer, Gathers, IsTable, Kept, Key, Points, borne_by, bucket_of, found_among, found_in}
 use Rattle.eco_entities.proofs.Common.{found_in_turn, found_spilled}
 use Rattle.eco_entities.proofs.Common.{hash_of, is_key_of, Claims, IsBorne, IsFree}
+use Rattle.eco_entities.proofs.Common.{◌-◌, none-some, option_map, found_by, tag_of, Cell}
+use Rattle.std.specs.Int.Bits.{bit_and}
 use Rattle.std.proofs.Common.{length-set, MatchBool}
 use Rattle.eco_entities.proofs.Cells.{found_still, key_parts, or_assoc, or_none, points_still}
 
@@ -281,3 +283,28 @@ module _ (f g : List ℕ → Option Entity) (b : Bearer) (bs : List ℕ) (own : 
 pub gathers_more : (was now one rest all old : Option Entity) → now ≡ option_or was one
     → option_or was (option_or one rest) ≡ option_or old all → option_or now rest ≡ option_or old all
 gathers_more was now one rest all old gain before = ap (λ o. option_or o rest) gain ∙ (or_assoc was one rest ∙ before)
+
+-- one more cell of a bucket
+module _ (buckets : List Kept) (bearers : List Bearer) (n : ℕ) (old new : Kept) (c : Cell) (table : IsTable buckets bearers)
+    (there : slice_get buckets n ≡ Some old) (points : AllPoint bearers new) (leads : Points bearers c)
+    (here : n ≡ bit_and c.tag (length buckets - 1)) (gain : Gathers (found_in bearers old) (found_by bearers (c ∷ [])) (found_in bearers new)) where
+  led : (o : Option Bearer) → slice_get bearers c.place ≡ o → option_map (λ b. tag_of b.key.hash) o ≡ Some c.tag
+      → IsTable (set buckets n new) bearers
+      × Gathers (found_among (buckets, bearers)) (found_by bearers (c ∷ [])) (found_among (set buckets n new, bearers))
+  led None at h = absurd (none-some _ h)
+  led (Some b) at h =
+      let one : (text : List ℕ) → found_by bearers (c ∷ []) text ≡ borne_by b text =
+      λ text. or_none (option_and_then (λ x. borne_by x text) (slice_get bearers c.place)) ∙ ap (option_and_then (λ x. borne_by x text)) at in
+      let own : n ≡ bucket_of b.key.hash (length buckets) = here ∙ ap (λ t. bit_and t (length buckets - 1)) (sym (same_Some _ _ h)) in
+      let mine : Gathers (found_in bearers old) (borne_by b) (found_in bearers new) =
+      record { all = λ text. gain.all text ∙ ap (option_or (found_in bearers old text)) (one text) } in
+      let among = among_gains buckets bearers bearers [] n old new table there (nil_right bearers) points b own mine in (
+        table_gains buckets bearers bearers [] n old new table there (nil_right bearers) points b own mine,
+        record { all = λ text. among.all text ∙ ap (option_or (found_among (buckets, bearers) text)) (sym (one text)) },
+      )
+
+  pub cell_table : IsTable (set buckets n new) bearers
+  cell_table = (led (slice_get bearers c.place) refl leads).0
+
+  pub cell_among : Gathers (found_among (buckets, bearers)) (found_by bearers (c ∷ [])) (found_among (set buckets n new, bearers))
+  cell_among = (led (slice_get bearers c.place) refl leads).1

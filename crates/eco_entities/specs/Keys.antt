@@ -36,9 +36,9 @@ is_key_of text key = is_eq (text_cmp text key)
 abbrev pub tag_of : ℕ → ℕ
 tag_of hash = hash / 4294967296
 
--- the bucket that a hash picks, of so many
+-- the bucket that a hash picks by its upper half, of so many
 abbrev pub bucket_of : ℕ → ℕ → ℕ
-bucket_of hash count = bit_and hash (count - 1)
+bucket_of hash count = bit_and (tag_of hash) (count - 1)
 
 -- who is found under a text where there is one bearer
 abbrev pub borne_by : Bearer → List ℕ → Option Entity

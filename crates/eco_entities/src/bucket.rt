@@ -1,7 +1,8 @@
 //! One bucket of the table of short names.
-ghost use Rattle.std.specs.Prelude.{◌≡◌, ◌/◌, ◌++◌, ℕ, List, [], All, true, false, not, IsTrue, Some, None};
+ghost use Rattle.std.specs.Prelude.{◌≡◌, ◌<◌, ◌-◌, ◌∷◌, ◌++◌, ℕ, List, [], All, true, false, not, IsTrue, Some, None};
 ghost use Rattle.std.specs.Prelude.{is_some, OnOk, OnErr, IfOk, MatchOption};
 ghost use Rattle.std.specs.Prelude.{slice_get, option_map};
+ghost use Rattle.std.specs.Int.Bits.{bit_and};
 ghost use Rattle.std.specs.Ordering.{is_eq};
 ghost use Rattle.eco_entities.specs.Changes.{ChangesAt, KeepsAnswers};
 ghost use Rattle.eco_entities.specs.Keys.{borne_by, found_by, found_in, found_spilled, is_key_of, key_cmp, AllPoint, Gathers, IsCellless};
@@ -61,6 +62,18 @@ impl Clone for Bucket {
             cells: self.cells.clone()?,
             spilled: self.spilled.clone()?,
         })
+    }
+}
+
+impl Cell {
+    /// The bucket that the cell is in, of so many.
+    #[inline]
+    pub(crate) fn bucket(&self, count: usize) -> usize
+        requires { 0 < count }
+        ensures value { result ≡ bit_and self.now.tag (count - 1) }
+        ensures within { result < count }
+    {
+        self.tag as usize & (count - 1)
     }
 }
 
@@ -172,6 +185,41 @@ impl Bucket {
     {
         let _ = self.spilled.insert(bearer.key, bearer.entity)?;
         Ok(())
+    }
+
+    /// The cell's bearer has its name, where nobody does. An `Err` comes where a growth was refused.
+    #[inline]
+    pub(crate) fn take_cell(&mut self, bearers: &[Bearer], cell: Cell) -> Result<(), AllocError>
+        requires all { AllPoint bearers.now self.old }
+        requires one { Points bearers.now cell }
+        ensures point { AllPoint bearers.now self.new }
+        ensures ok { OnOk result (Gathers (found_in bearers.now self.old) (found_by bearers.now (cell ∷ []))
+            (found_in bearers.now self.new)) }
+    {
+        if self.cells.is_full() || !self.spilled.is_empty() {
+            return self.take_spilled(bearers, bearers[cell.place as usize]);
+        }
+        self.cells.push(cell);
+        Ok(())
+    }
+
+    /// The bearer has its name and no cell, where nobody has that name. An `Err` comes where a growth was refused.
+    #[cold]
+    #[inline(never)]
+    pub(crate) fn take_spilled(
+        &mut self,
+        bearers: &[Bearer],
+        bearer: Bearer,
+    ) -> Result<(), AllocError>
+        requires { AllPoint bearers.now self.old }
+        ensures point { AllPoint bearers.now self.new }
+        ensures ok { OnOk result (Gathers (found_in bearers.now self.old) (borne_by bearer)
+            (found_in bearers.now self.new)) }
+    {
+        if self.get(bearers, &bearer.key).is_some() {
+            return Ok(());
+        }
+        self.spill(bearer)
     }
 
     /// Nobody bears the name.

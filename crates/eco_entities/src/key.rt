@@ -52,6 +52,6 @@ impl Key {
         ensures value { result ≡ bucket_of self.now.hash count }
         ensures within { result < count }
     {
-        self.hash as usize & (count - 1)
+        self.tag() as usize & (count - 1)
     }
 }

@@ -1,8 +1,8 @@
 //! The short names in use, each with the living entity that bears it.
-ghost use Rattle.std.specs.Prelude.{◌≡◌, ◌<◌, ℕ, List, [], All, true, not, None, is_some, OnOk, OnErr, IfOk, MatchBool, length};
+ghost use Rattle.std.specs.Prelude.{◌≡◌, ◌<◌, ◌∷◌, ℕ, List, [], All, true, not, None, is_some, OnOk, OnErr, IfOk, MatchBool, length};
 ghost use Rattle.eco_entities.specs.Changes.{KeepsAnswers};
 ghost use Rattle.eco_entities.specs.Keys.{found_among, found_by, found_in_turn, found_spilled, borne_by, is_key_of, AllPoint, Gathers};
-ghost use Rattle.eco_entities.specs.Keys.{Points};
+ghost use Rattle.eco_entities.specs.Keys.{IsTable, Points};
 
 use crate::bucket::{Bearer, Bucket, Cell};
 use crate::key::Key;
@@ -16,9 +16,9 @@ use std::marker::Model;
 pub(crate) struct ShortNames {
     // None at first, then a power of two of them.
     buckets: Vec<Bucket>,
-    // In the order in which they came. One whose name was removed stays until the table is made anew, and no cell leads to it.
+    // In the order in which they came. One whose name was removed stays until they are listed anew, and no cell leads to it.
     bearers: Vec<Bearer>,
-    // How many names are in use, which only tells how many buckets a new table has.
+    // How many names are in use, which only tells whether to widen the table or to list the bearers anew.
     names: usize,
 }
 
@@ -48,7 +48,7 @@ impl Drop for ShortNames {
 // How many buckets there are at first.
 const FEW_BUCKETS: usize = 8;
 
-// How many bearers there are for a bucket before the table is made anew: few enough that most buckets have cells left.
+// How many bearers there may be for a bucket: few enough that most buckets have cells left.
 const BEARERS_PER_BUCKET: usize = 4;
 
 impl ShortNames {
@@ -121,8 +121,37 @@ impl ShortNames {
         if self.get(name).is_some() {
             return Ok(false);
         }
-        *self = self.anew()?;
+        self.make_room()?;
         self.claim_in_room(name, entity)
+    }
+
+    // More buckets, where most bearers' names are in use, and else no other bearers. An `Err` comes where a growth was
+    // refused, and changes nothing.
+    fn make_room(&mut self) -> Result<(), AllocError>
+        ensures same { KeepsAnswers (found_among self.old) (found_among self.new) }
+        ensures room { OnOk result (0 < length self.new.0) }
+    {
+        if self.buckets.is_empty() || self.names > self.bearers.len() / 2 {
+            return self.widen();
+        }
+        *self = self.anew()?;
+        Ok(())
+    }
+
+    // More buckets for the same bearers.
+    fn widen(&mut self) -> Result<(), AllocError>
+        ensures same { KeepsAnswers (found_among self.old) (found_among self.new) }
+        ensures room { OnOk result (0 < length self.new.0) }
+    {
+        let count = self.buckets.len().saturating_mul(2).max(FEW_BUCKETS);
+        let mut buckets = empty_buckets(*self.buckets.allocator(), count)?;
+        fill(
+            &mut buckets,
+            self.buckets.as_slice(),
+            self.bearers.as_slice(),
+        )?;
+        self.buckets = buckets;
+        Ok(())
     }
 
     // What `claim` does with the buckets that there are.
@@ -158,33 +187,20 @@ impl ShortNames {
         Ok(done)
     }
 
-    // The same names in a new table, which has more buckets if most bearers' names are in use.
+    // The same names in a table of as many buckets, and no bearers but theirs.
     fn anew(&self) -> Result<ShortNames, AllocError>
+        requires { 0 < length self.now.0 }
         ensures same { IfOk result (λ n. KeepsAnswers (found_among self.now) (found_among n)) }
         ensures room { IfOk result (λ n. 0 < length n.0) }
     {
         let alloc = *self.buckets.allocator();
         let mut table = ShortNames {
-            buckets: empty_buckets(alloc, self.count_anew())?,
+            buckets: empty_buckets(alloc, self.buckets.len())?,
             bearers: Vec::with_capacity(alloc, self.names)?,
             names: 0,
         };
         table.take_all(self.buckets.as_slice(), self.bearers.as_slice())?;
         Ok(table)
-    }
-
-    // How many buckets a new table has.
-    fn count_anew(&self) -> usize
-        ensures { 0 < result }
-    {
-        let count = self.buckets.len();
-        if count == 0 {
-            FEW_BUCKETS
-        } else if self.names > self.bearers.len() / 2 {
-            count.saturating_mul(4)
-        } else {
-            count
-        }
     }
 
     // The names of these buckets, in turn, where nobody has them. An `Err` comes where a growth was refused, and may leave
@@ -257,4 +273,97 @@ fn empty_buckets(alloc: Global, count: usize) -> Result<Vec<Bucket>, AllocError>
         buckets.push(Bucket::new(alloc))?;
     }
     Ok(buckets)
+}
+
+// The names of the old buckets, in turn, where nobody has them: those with a cell get one again, as far as there are cells. An
+// `Err` comes where a growth was refused, and may leave some.
+fn fill(buckets: &mut Vec<Bucket>, old: &[Bucket], bearers: &[Bearer]) -> Result<(), AllocError>
+    requires room { 0 < length buckets.old.items }
+    requires point { All (AllPoint bearers.now) old.now }
+    requires table { IsTable buckets.old.items bearers.now }
+    ensures count { length buckets.new.items ≡ length buckets.old.items }
+    ensures table { OnOk result (IsTable buckets.new.items bearers.now) }
+    ensures ok { OnOk result (Gathers (found_among (buckets.old.items, bearers.now))
+        (found_in_turn bearers.now old.now) (found_among (buckets.new.items, bearers.now))) }
+{
+    for bucket in old {
+        fill_cells(buckets, bucket.cells(), bearers)?;
+        fill_spilled(buckets, bucket.spilled(), bearers)?;
+    }
+    Ok(())
+}
+
+// The names to whose bearers these cells lead, likewise.
+fn fill_cells(
+    buckets: &mut Vec<Bucket>,
+    cells: &[Cell],
+    bearers: &[Bearer],
+) -> Result<(), AllocError>
+    requires room { 0 < length buckets.old.items }
+    requires point { All (Points bearers.now) cells.now }
+    requires table { IsTable buckets.old.items bearers.now }
+    ensures count { length buckets.new.items ≡ length buckets.old.items }
+    ensures table { OnOk result (IsTable buckets.new.items bearers.now) }
+    ensures ok { OnOk result (Gathers (found_among (buckets.old.items, bearers.now))
+        (found_by bearers.now cells.now) (found_among (buckets.new.items, bearers.now))) }
+{
+    for cell in cells {
+        put_cell(buckets, bearers, *cell)?;
+    }
+    Ok(())
+}
+
+// The names of this tree, likewise.
+fn fill_spilled(
+    buckets: &mut Vec<Bucket>,
+    spilled: &BTreeMap<Key, Entity>,
+    bearers: &[Bearer],
+) -> Result<(), AllocError>
+    requires room { 0 < length buckets.old.items }
+    requires table { IsTable buckets.old.items bearers.now }
+    ensures count { length buckets.new.items ≡ length buckets.old.items }
+    ensures table { OnOk result (IsTable buckets.new.items bearers.now) }
+    ensures ok { OnOk result (Gathers (found_among (buckets.old.items, bearers.now))
+        (found_spilled spilled.now.entries) (found_among (buckets.new.items, bearers.now))) }
+{
+    for (key, entity) in spilled {
+        let bearer = Bearer {
+            key: *key,
+            entity: *entity,
+        };
+        put_spilled(buckets, bearers, bearer)?;
+    }
+    Ok(())
+}
+
+// The name to whose bearer this cell leads, likewise.
+#[inline]
+fn put_cell(buckets: &mut Vec<Bucket>, bearers: &[Bearer], cell: Cell) -> Result<(), AllocError>
+    requires room { 0 < length buckets.old.items }
+    requires point { Points bearers.now cell }
+    requires table { IsTable buckets.old.items bearers.now }
+    ensures count { length buckets.new.items ≡ length buckets.old.items }
+    ensures table { OnOk result (IsTable buckets.new.items bearers.now) }
+    ensures ok { OnOk result (Gathers (found_among (buckets.old.items, bearers.now))
+        (found_by bearers.now (cell ∷ [])) (found_among (buckets.new.items, bearers.now))) }
+{
+    let place = cell.bucket(buckets.len());
+    buckets[place].take_cell(bearers, cell)
+}
+
+// The name of this bearer, who gets no cell, likewise.
+fn put_spilled(
+    buckets: &mut Vec<Bucket>,
+    bearers: &[Bearer],
+    bearer: Bearer,
+) -> Result<(), AllocError>
+    requires room { 0 < length buckets.old.items }
+    requires table { IsTable buckets.old.items bearers.now }
+    ensures count { length buckets.new.items ≡ length buckets.old.items }
+    ensures table { OnOk result (IsTable buckets.new.items bearers.now) }
+    ensures ok { OnOk result (Gathers (found_among (buckets.old.items, bearers.now)) (borne_by bearer)
+        (found_among (buckets.new.items, bearers.now))) }
+{
+    let place = bearer.key.bucket(buckets.len());
+    buckets[place].take_spilled(bearers, bearer)
 }

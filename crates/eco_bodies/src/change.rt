@@ -46,15 +46,22 @@ fn value_at<R: BodyRow>(row: &R, slot: usize) -> Option<Value>
     }
 }
 
-// The sum of the values of two slots, where there are both.
+// Records that an id is set to a value, where it matches one of the patterns.
 #[inline(always)]
-fn sum_at<R: BodyRow>(row: &R, into: usize, from: usize) -> Option<Value>
-    ensures { result ≡ sum_at (R.row_of row.now) into from }
+fn set_id(
+    writes: &[Pattern],
+    entity: Entity,
+    id: Id,
+    value: Value,
+    stage: &mut Stage,
+) -> Result<(), AllocError>
+    ensures ok { OnOk result (stage.new
+        ≡ stage.old ++ option_to_list (set_of writes.now entity (Some id) (Some value))) }
 {
-    let (Some(value), Some(other)) = (value_at(row, into), value_at(row, from)) else {
-        return None;
-    };
-    Some(sum_of(value, other))
+    if !matches_one(writes, id) {
+        return Ok(());
+    }
+    put_command(stage, Command::Set(entity, id, value))
 }
 
 // Records that an entry is set to a value, where it is there and matches one of the patterns.
@@ -69,13 +76,10 @@ fn set_entry(
     ensures ok { OnOk result (stage.new
         ≡ stage.old ++ option_to_list (set_of writes.now entity entry (Some value))) }
 {
-    let Some(id) = entry else {
-        return Ok(());
-    };
-    if !matches_one(writes, id) {
-        return Ok(());
+    match entry {
+        Some(id) => set_id(writes, entity, id, value, stage),
+        None => Ok(()),
     }
-    put_command(stage, Command::Set(entity, id, value))
 }
 
 // Records that the entry of a slot is set to the sum of its value and another's, where there are both.
@@ -91,9 +95,14 @@ fn add_up<R: BodyRow>(
         (R.row_of row.now).entity (item_at (R.row_of row.now).entries into)
         (sum_at (R.row_of row.now) into from))) }
 {
-    match sum_at(row, into, from) {
-        Some(value) => set_entry(writes, row.entity(), entry_at(row, into), value, stage),
-        None => Ok(()),
+    let Some(id) = entry_at(row, into) else {
+        return Ok(());
+    };
+    match (row.value(into), value_at(row, from)) {
+        (Some(value), Some(other)) => {
+            set_id(writes, row.entity(), id, sum_of(value, other), stage)
+        }
+        _ => Ok(()),
     }
 }
 

@@ -1,5 +1,6 @@
 //! The results of a query.
-ghost use Rattle.std.specs.Prelude.{◌≡◌, ◌==◌, ◌<◌, length, map, slice_get, IfOk, IfSome, IsSome, OnErr, Some};
+ghost use Rattle.std.specs.Prelude.{◌≡◌, ◌==◌, ◌<◌, length, map, option_map, slice_get, IfOk, IfSome, IsSome, IsTrue, OnErr};
+ghost use Rattle.std.specs.Prelude.{Some};
 ghost use Rattle.std.specs.List.{All};
 ghost use Rattle.eco_ids.specs.Answer as answers;
 ghost use Rattle.eco_ids.specs.Answer.{answer, Row as Rows};
@@ -84,6 +85,27 @@ impl Results {
     {
         let row = self.rows.get(place);
         (row.entity, self.choices.get(row.place))
+    }
+
+    /// The entity of one of them.
+    #[inline]
+    pub fn entity(&self, place: usize) -> Entity
+        requires { place < length self.now }
+        ensures { option_map (λ r. r.entity) (slice_get self.now place) ≡ Some result }
+    {
+        self.rows.get(place).entity
+    }
+
+    /// Whether two of them share their entries, which then stand once for both. Those of two types are not shared, though they
+    /// may be equal.
+    #[inline]
+    pub fn share_entries(&self, one: usize, other: usize) -> bool
+        requires one { one < length self.now }
+        requires other { other < length self.now }
+        ensures { IsTrue result → option_map (λ r. r.entries) (slice_get self.now one)
+            ≡ option_map (λ r. r.entries) (slice_get self.now other) }
+    {
+        self.rows.get(one).place == self.rows.get(other).place
     }
 
     /// All of them, in their order.

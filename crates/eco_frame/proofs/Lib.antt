@@ -1,4 +1,5 @@
 pub mod Common
+pub mod Columns
 pub mod Alike
 pub mod Batched
 pub mod Between

@@ -10,7 +10,7 @@ use Rattle.eco_query.specs.Queries.{QuerySlot, slot_view}
 use Rattle.eco_bodies.specs.Lent.{item_at}
 
 -- what `get` finds
-found : {X : Type 0} (xs : List X) (k : ℕ) (o : Option (Bor X)) → IsItemAt xs k o → option_copied o ≡ slice_get xs k
+pub found : {X : Type 0} (xs : List X) (k : ℕ) (o : Option (Bor X)) → IsItemAt xs k o → option_copied o ≡ slice_get xs k
 found xs k None at = sym (slice_get_past xs k at.3)
 found xs k (Some x) at = ap Some at.1 ∙ sym (slice_get-get_or xs k x.now at.3.0)
 

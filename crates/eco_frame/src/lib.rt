@@ -3,6 +3,8 @@
 #![tactic(auto)]
 
 mod batch;
+mod column;
+mod column_row;
 mod frame;
 mod part;
 mod piece;
@@ -11,6 +13,7 @@ mod points;
 mod progress;
 mod report;
 mod row;
+mod row_columns;
 mod stop;
 mod system_rows;
 

@@ -27,11 +27,15 @@ impl<B> Drop for Part<'_, B> {
 }
 
 // Asks a world for the rows of a system.
-fn ask<'a, B: SystemBody>(world: &'a World, system: &'a System<B>) -> Result<Part<'a, B>, Refusal>
+fn ask<'a, B: SystemBody>(
+    alloc: Global,
+    world: &'a World,
+    system: &'a System<B>,
+) -> Result<Part<'a, B>, Refusal>
     ensures ok { IfOk result (λ p. seen_part p ≡ body_with_rows world.now system.now) }
     ensures err { IfErr result (λ why. why ≡ OutOfMemory) }
 {
-    let rows = SystemRows::of(world, &system.query)?;
+    let rows = SystemRows::of(alloc, world, &system.query)?;
     Ok(Part {
         body: &system.body,
         rows,
@@ -52,7 +56,7 @@ pub(crate) fn parts<'a, B: SystemBody>(
 {
     let mut parts = Vec::with_capacity(alloc, places.len())?;
     for place in places {
-        parts.push(ask(world, &systems[*place])?)?;
+        parts.push(ask(alloc, world, &systems[*place])?)?;
     }
     Ok(parts)
 }

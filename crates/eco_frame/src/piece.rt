@@ -3,11 +3,15 @@ ghost use Rattle.std.specs.Prelude.{◌≡◌, ◌-◌, ◌≤◌, drop, false, 
 ghost use Rattle.eco_bodies.specs.Taking.{commands_in_turn, taken_of};
 ghost use Rattle.eco_stages.specs.Taking.{Broke, Took, stopped_by};
 
+use crate::row_columns::RowColumns;
 use crate::system_rows::SystemRows;
 use eco_bodies::{Draws, SystemBody, rows_are_recorded_one_by_one};
 use eco_ids::Refusal;
 use eco_stages::Stage;
 use eco_workers::Piece;
+
+// For fewer rows each is looked for by itself, since to look for columns takes as long as to look for some rows.
+const FEW: usize = 8;
 
 // Consecutive rows of a system, which one thread records: those from one place to below another.
 pub(crate) struct RowsPiece<'a, B> {
@@ -61,6 +65,39 @@ fn record_between<B: SystemBody, D: Draws>(
     Ok(())
 }
 
+// Records the same, where the columns of their tables are looked for once for rows that follow one another. It stops where there
+// is no memory to list them, too.
+#[inline(never)]
+fn record_in_columns<'a, B: SystemBody, D: Draws>(
+    body: &B,
+    rows: &'a SystemRows<'a>,
+    first: usize,
+    end: usize,
+    draws: &mut D,
+    stage: &mut Stage,
+) -> Result<(), Refusal>
+    requires wet { D.is_dry draws.old ≡ false }
+    requires places { (first ≤ end) × (end ≤ length rows.now) }
+    ensures rest { D.rest draws.new ≡ D.rest draws.old }
+    ensures wet { IfOk result (λ _. D.is_dry draws.new ≡ false) }
+    ensures ok { IfOk result (λ _. Took
+        (commands_in_turn (B.commands body.now) (B.taken body.now) (take (end - first) (drop first rows.now)))
+        (taken_of (B.taken body.now) (take (end - first) (drop first rows.now)))
+        (D.so_far draws.old) (D.so_far draws.new) stage.old stage.new) }
+    ensures why { IfErr result (λ why. why ≡ stopped_by (D.is_dry draws.new)) }
+    ensures err { IfErr result (λ _. Broke
+        (taken_of (B.taken body.now) (take (end - first) (drop first rows.now)))
+        (D.so_far draws.old) (D.so_far draws.new) (D.is_dry draws.new)) }
+{
+    rows_are_recorded_one_by_one();
+    let mut columns = RowColumns::new(rows);
+    for place in first..end {
+        columns.seek(place)?;
+        body.record(&columns.row(), draws, stage)?;
+    }
+    Ok(())
+}
+
 impl<B: SystemBody> Piece for RowsPiece<'_, B> {
     ghost use Rattle.eco_frame.specs.Pieces.{piece_rows};
 
@@ -69,6 +106,9 @@ impl<B: SystemBody> Piece for RowsPiece<'_, B> {
     ghost taken = { λ p. taken_of (B.taken p.body.now) (piece_rows p) };
 
     fn record<D: Draws>(&self, draws: &mut D, stage: &mut Stage) -> Result<(), Refusal> {
+        if self.rows.show() && FEW <= self.end - self.first {
+            return record_in_columns(self.body, self.rows, self.first, self.end, draws, stage);
+        }
         record_between(self.body, self.rows, self.first, self.end, draws, stage)
     }
 }

@@ -23,3 +23,7 @@ pub record AreTablesOf (w : Indexed Record) (slots : List (Option TableState)) :
   pub shown : IsShown w slots
   pub kept : KeepData w slots
   pub kinds : (n m : ℕ) (ids : List Id) → type_at slots n ≡ Some ids → type_at slots m ≡ Some ids → n ≡ m
+
+-- the table is one of a store's
+abbrev pub IsTableOf : Indexed Record → TableState → Type 0
+IsTableOf w t = (slots : List (Option TableState)) × (n : ℕ) × AreTablesOf w slots × (table_in slots n ≡ t)

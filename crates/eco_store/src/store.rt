@@ -14,7 +14,7 @@ ghost use Rattle.eco_tables.specs.Table.{TableRow};
 ghost use Rattle.eco_store.specs.Store.{Admission, CreatesRecord, RenamesRecord, MakesRecordAlive, held_in_store};
 ghost use Rattle.eco_store.specs.Store.{own_arity_in_store, fits_in_store, record_name, type_in_store};
 ghost use Rattle.eco_store.specs.Store.{record_with_written, Stands};
-ghost use Rattle.eco_store.specs.Lent.{AreTablesOf, KeepsData};
+ghost use Rattle.eco_store.specs.Lent.{AreTablesOf, IsTableOf, KeepsData};
 
 use crate::layout::Layout;
 use crate::staying::Staying;
@@ -154,9 +154,12 @@ impl Store {
         ensures own { IfSome result (λ x. (row : TableRow)
             → (slice_index_or x.0.now.rows x.1 row).entity ≡ e) }
         ensures kept { IfSome result (λ x. KeepsData self.now.entities x.0.now) }
+        ensures listed { IfSome result (λ x. IsTableOf self.now.entities x.0.now) }
     {
         let place = self.layout.entities.place_of(e)?;
-        let table = self.layout.archetypes.tables().get(place.table).unwrap();
+        let tables = self.layout.archetypes.tables();
+        tables.rows_have_ids();
+        let table = tables.get(place.table).unwrap();
         Some((table, place.row))
     }
 

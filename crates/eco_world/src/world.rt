@@ -1,8 +1,9 @@
 //! The world and what it answers.
-ghost use Rattle.std.specs.Prelude.{◌≡◌, ◌≤◌, ◌<◌, false, ◌||◌, IfErr, IfOk, is_some, IsTrue, length, map, MatchOption};
-ghost use Rattle.std.specs.Prelude.{None, not, OnOk, option_map};
+ghost use Rattle.std.specs.Prelude.{◌≡◌, ◌≤◌, ◌<◌, false, ◌||◌, IfErr, IfNone, IfOk, IfSome, is_some, IsTrue, length};
+ghost use Rattle.std.specs.Prelude.{ℕ, if◌then◌else◌, map, MatchOption, None, not, OnOk, option_map, slice_get, Some};
 ghost use Rattle.std.specs.Option.{option_copied};
 ghost use Rattle.eco_ids.specs.declared.entity.Entity.{Entity as Entities};
+ghost use Rattle.eco_ids.specs.declared.id.Id.{Id as Ids};
 ghost use Rattle.eco_ids.specs.declared.refusal.Refusal.TheVariants.{OutOfMemory};
 ghost use Rattle.eco_ids.specs.Builtin.{is_builtin};
 ghost use Rattle.eco_ids.specs.Data.{arity, arity_of, is_zero_past, value_of};
@@ -14,12 +15,14 @@ ghost use Rattle.eco_ids.specs.Step.{own_name};
 ghost use Rattle.eco_ids.specs.World.{entities, first_world, has, held_by, is_alive, living, record_of, world_of_edition};
 ghost use Rattle.eco_entities.specs.Registration.{entity_at};
 ghost use Rattle.eco_traits.specs.Target.{type_of_record};
+ghost use Rattle.eco_world.specs.Layouts.{is_lent, lent_by};
 ghost use Rattle.eco_world.specs.Queries.{is_matched};
 ghost use Rattle.eco_world.specs.Refs.{StandsInRow};
 
 use crate::builtins::builtin_store;
 use crate::entity_ref::EntityRef;
 use crate::kept_query::KeptQuery;
+use crate::table_rows::TableRows;
 use crate::world::changes::is_zero_past;
 use eco_grammar::Names;
 use eco_ids::{Edition, Entity, Id, Pattern, Refusal, TypeList, Value};
@@ -224,6 +227,21 @@ impl World {
         ensures { result ≡ record { world = self.now; entity = entity } }
     {
         EntityRef::new(self, entity)
+    }
+
+    /// The table of a living entity's type, and the row in which the entity stands there: whoever else stands there has its
+    /// values in the same columns.
+    #[inline]
+    pub fn table_of(&self, entity: Entity) -> Option<(TableRows<'_>, usize)>
+        ensures none { IfNone result (record_of self.now entity ≡ None) }
+        ensures lent { IfSome result (λ x. (row : ℕ) (e : Entities) → slice_get x.0.entities.now row ≡ Some e
+            → (i : Ids) → value_of self.now e i
+            ≡ (if is_lent x.0 i then slice_get (lent_by x.0 i) row else None)) }
+        ensures own { IfSome result (λ x. slice_get x.0.entities.now x.1 ≡ Some entity) }
+    {
+        self.is_lawful();
+        let (table, row) = self.store.stand(entity)?;
+        Some((TableRows::of(self, table), row))
     }
 
     /// All living entities, ascending. An `Err` comes where a growth of the list was refused.

@@ -1,0 +1,15 @@
+use Rattle.eco_frame.proofs.Common.{◌≡◌, ◌-◌, false, drop, take, AllTook}
+use Rattle.eco_frame.specs.Rows.{IsRun}
+use Rattle.eco_frame.proofs.piece.record_in_columns.Given as goal
+
+-- the rows so far
+abbrev pub invariant-loop-place : goal.invariant-loop-place
+invariant-loop-place g l = record {
+  rest : g.D.Draws.rest l.draws ≡ g.D.Draws.rest l.fn.draws;
+  wet : g.D.Draws.is_dry l.draws ≡ false;
+  run : IsRun l.columns;
+  same : l.columns.rows.now ≡ l.rows;
+  took :
+      AllTook (g.B.SystemBody.commands l.body) (g.B.SystemBody.taken l.body) (take (l.place - l.first) (take (l.end - l.first) (drop l.first l.rows)))
+      (g.D.Draws.so_far l.fn.draws) (g.D.Draws.so_far l.draws) l.fn.stage l.stage;
+}

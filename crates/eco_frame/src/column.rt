@@ -1,0 +1,98 @@
+//! A column that a slot of a query shows.
+ghost use Rattle.std.specs.Prelude.{◌≡◌, ◌≤◌, ℕ, None, map, slice_get};
+ghost use Rattle.eco_ids.specs.World.{padded};
+ghost use Rattle.eco_systems.specs.Rows.{entry_value};
+ghost use Rattle.eco_tables.specs.Values.{whole_values};
+ghost use Rattle.eco_frame.specs.Rows.{lent_in, lent_value, shown_in};
+
+use crate::row::shows_values;
+use eco_ids::value::FIELD_COUNT;
+use eco_ids::{Id, Value};
+use eco_query::Slot;
+use eco_tables::Values;
+use eco_world::TableRows;
+
+/// The values that a slot shows in the rows of a table; none, where it shows none there.
+#[derive(Clone, Copy)]
+pub(crate) struct Column<'a> {
+    values: Values<'a>,
+}
+
+// The value in a row, if there is one.
+#[inline(always)]
+fn value_at<const N: usize>(rows: &[[i64; N]], row: usize) -> Option<Value>
+    requires { N ≤ FIELD_COUNT }
+    ensures { result ≡ slice_get (map padded rows.now) row }
+{
+    match rows.get(row) {
+        Some(fields) => Some(Value::of(*fields)),
+        None => None,
+    }
+}
+
+impl<'a> Column<'a> {
+    // Of a slot that shows no values.
+    #[inline(always)]
+    fn empty() -> Column<'a>
+        ensures { (row : ℕ) → shown_in row result ≡ None }
+    {
+        Column {
+            values: Values::One(&[]),
+        }
+    }
+
+    // The table's values of an id, if it lends any.
+    #[inline(always)]
+    fn lent_by(table: &TableRows<'a>, id: Id) -> Column<'a>
+        ensures { (row : ℕ) → shown_in row result ≡ lent_value table.now row id }
+    {
+        match table.values(id) {
+            Some(values) => Column { values },
+            None => Column::empty(),
+        }
+    }
+
+    // The same of the table that was found.
+    #[inline(always)]
+    fn lent(found: &Option<(TableRows<'a>, usize)>, id: Id) -> Column<'a>
+        ensures { (row : ℕ) → shown_in row result ≡ lent_in found.now row id }
+    {
+        match found {
+            Some((table, _)) => Column::lent_by(table, id),
+            None => Column::empty(),
+        }
+    }
+
+    /// What a slot shows in the table that was found, where its entry is this one.
+    #[inline(always)]
+    pub(crate) fn of(
+        found: &Option<(TableRows<'a>, usize)>,
+        slot: &Slot,
+        entry: &Option<Id>,
+    ) -> Column<'a>
+        ensures { (row : ℕ) → shown_in row result
+            ≡ entry_value (lent_in found.now row) slot.now.access entry.now }
+    {
+        match entry {
+            Some(id) if shows_values(slot.access) => Column::lent(found, *id),
+            _ => Column::empty(),
+        }
+    }
+
+    /// The value in a row.
+    #[inline(always)]
+    pub(crate) fn value(&self, row: usize) -> Option<Value>
+        ensures { result ≡ shown_in row self.now }
+    {
+        match self.values {
+            Values::One(rows) => value_at(rows, row),
+            Values::Two(rows) => value_at(rows, row),
+            Values::Three(rows) => value_at(rows, row),
+            Values::Four(rows) => value_at(rows, row),
+            Values::Five(rows) => value_at(rows, row),
+            Values::Six(rows) => value_at(rows, row),
+            Values::Seven(rows) => value_at(rows, row),
+            Values::Eight(rows) => value_at(rows, row),
+        }
+    }
+}

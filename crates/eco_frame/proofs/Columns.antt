@@ -1,6 +1,6 @@
 -- Rows that columns show.
-use Rattle.eco_frame.proofs.Common.{◌≡◌, ◌≤◌, ◌<◌, ℕ, zero, suc, List, [], ◌∷◌, Option, None, Some, if◌then◌else◌, refl, sym, ap, ◌∙◌, arith}
-use Rattle.eco_frame.proofs.Common.{drop, length, map, option_map, slice_get, Entity, ValuedRow, WorldState, entry_value, entry_values, valued_rows}
+use Rattle.eco_frame.proofs.Common.{◌≡◌, ◌≤◌, ◌<◌, ℕ, zero, suc, List, [], ◌∷◌, Option, None, Some, if◌then◌else◌, refl, sym, ap}
+use Rattle.eco_frame.proofs.Common.{◌∙◌, arith, drop, length, map, option_map, slice_get, Entity, ValuedRow, WorldState, entry_value, entry_values, valued_rows}
 use Rattle.std.proofs.lemmas.Option.{none-some, same_Some, slice_get-map}
 use Rattle.std.specs.Prelude.{Bool, true, false, IfNone, IfSome, ◌⊎◌}
 use Rattle.eco_ids.specs.declared.id.Id.{Id}
@@ -39,7 +39,8 @@ no_items (suc k) = refl
 
 module _ (f : Id → Option Value) where
   -- those from a place on begin with the value there
-  pub next_value : (slots : List Slot) (entries : List (Option Id)) (k : ℕ) (s : Slot) (o : Option Id) → slice_get slots k ≡ Some s → slice_get entries k ≡ Some o
+  pub next_value : (slots : List Slot) (entries : List (Option Id)) (k : ℕ) (s : Slot) (o : Option Id)
+      → slice_get slots k ≡ Some s → slice_get entries k ≡ Some o
       → entry_values f (map slot_view (drop k slots)) (drop k entries)
       ≡ entry_value f s.access o ∷ entry_values f (map slot_view (drop (suc k) slots)) (drop (suc k) entries)
   next_value [] entries k s o at there = absurd (none-some s at)
@@ -83,7 +84,8 @@ pub row_shown : (w : WorldState) (q : List QuerySlot) (rows : List ValuedRow) (p
     → slice_get rows place ≡ Some (record { entity = e; entries = es; values = vs })
 row_shown w q rows place e es vs are own listed shown =
     let all = answer w (map (λ (s : QuerySlot). s.term) q) in
-    is_row w q (slice_get all place) (slice_get rows place) e es vs (ap (λ rs. slice_get rs place) are ∙ slice_get-map (valued w q) all place) own listed shown
+    is_row w q (slice_get all place) (slice_get rows place) e es vs
+    (ap (λ rs. slice_get rs place) are ∙ slice_get-map (valued w q) all place) own listed shown
 
 -- a row that shares its entries with the one for which columns were looked for, and whose entity stands in their table
 pub run_shows : (c : RowColumns) → IsRun c → (row place : ℕ) (e : Entity) → slice_get c.entities.now row ≡ Some e
@@ -92,7 +94,8 @@ pub run_shows : (c : RowColumns) → IsRun c → (row place : ℕ) (e : Entity) 
     → slice_get c.rows.now place ≡ Some (row_in c row e)
 run_shows c run row place e at own shared =
     let shown = run.shown row e at in
-    row_shown c.world.now c.query.now c.rows.now place e c.entries.now (map (shown_in row) c.columns.items) run.rows own (sym shared ∙ shown.entries) shown.values
+    row_shown c.world.now c.query.now c.rows.now place e c.entries.now (map (shown_in row) c.columns.items) run.rows own
+    (sym shared ∙ shown.entries) shown.values
 
 -- whoever is sought, the columns stay
 pub moved : (c : RowColumns) (e : Entity) (row : ℕ) → IsRun c → IsRun (record c { entity = e; row = row })

@@ -1,5 +1,6 @@
 -- Rows that a world lends.
-use Rattle.std.specs.Prelude.{◌≡◌, ℕ, ◌<◌, Bool, ◌&&◌, false, not, List, [], Option, None, Some, if◌then◌else◌, is_some, length, map, option_map, slice_get}
+use Rattle.std.specs.Prelude.{◌≡◌, ℕ, ◌<◌, Bool, ◌&&◌, false, not, List, [], Option, None, Some, if◌then◌else◌, is_some}
+use Rattle.std.specs.Prelude.{length, map, option_map, slice_get}
 use Rattle.eco_ids.specs.declared.entity.Entity.{Entity}
 use Rattle.eco_ids.specs.declared.id.Id.{Id}
 use Rattle.eco_ids.specs.declared.pattern.Pattern.TheVariants.{One, Two}

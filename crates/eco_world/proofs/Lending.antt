@@ -124,8 +124,8 @@ module _ (w : WorldState) (slots : List (Option TableState)) (shown : IsShown (e
       ∙ ap (λ o. if is_lent t i then o else None) (sym column)
 
 -- so the table in which a store finds an entity lends
-pub lends_found : (w : WorldState) → IsLawful w → (t : TableRows) (table : TableState) → IsTableOf (entities w) table → lent t ≡ lent_of w table → IsWhole t
-    → LendsRows w t
+pub lends_found : (w : WorldState) → IsLawful w → (t : TableRows) (table : TableState) → IsTableOf (entities w) table
+    → lent t ≡ lent_of w table → IsWhole t → LendsRows w t
 lends_found w lawful t table listed is whole =
     lends_rows w listed.0 listed.2.shown listed.2.kept lawful t (listed.1, ap (lent_of w) listed.3 ∙ sym is) whole
 

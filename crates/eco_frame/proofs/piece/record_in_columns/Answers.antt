@@ -1,5 +1,5 @@
-use Rattle.eco_frame.proofs.Common.{◌≡◌, ◌+◌, ◌-◌, ◌≤◌, ℕ, [], Some, drop, length, slice_get, take, ap, ◌∙◌, refl, sym, subst, arith}
-use Rattle.eco_frame.proofs.Common.{◌<◌, ValuedRow, get_or, slice_get-get_or, true≢false, append-nil, take_all, err_from_is_err_and, AllTook}
+use Rattle.eco_frame.proofs.Common.{◌≡◌, ◌+◌, ◌-◌, ◌≤◌, ℕ, [], Some, drop, length, slice_get, take, ap, ◌∙◌, refl, sym, subst}
+use Rattle.eco_frame.proofs.Common.{arith, ◌<◌, ValuedRow, get_or, slice_get-get_or, true≢false, append-nil, take_all, err_from_is_err_and, AllTook}
 use Rattle.std.proofs.Common.{zero-le}
 use Rattle.eco_frame.specs.Rows.{column_row}
 use Rattle.eco_frame.proofs.Between.{no_more, row_at}

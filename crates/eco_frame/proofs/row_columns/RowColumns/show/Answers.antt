@@ -6,11 +6,15 @@ use Rattle.eco_frame.proofs.row_columns.RowColumns.show.Goals as goal
 pub share_entries-requires-clause-one : goal.share_entries-requires-clause-one
 share_entries-requires-clause-one c =
     let run = c.args.self.now in
-    let at = sym (found run.entities.now c.args.row (Some c.in-Some.other) c.in-Some.ensures.lookup) ∙ ap (λ e. Some e) (c.is.ensures.exact.0 c.if-is.true) in
+    let at =
+    sym (found run.entities.now c.args.row (Some c.in-Some.other) c.in-Some.ensures.lookup)
+    ∙ ap (λ e. Some e) (c.is.ensures.exact.0 c.if-is.true) in
     (c.requires.run.shown c.args.row c.args.entity at).there
 
 pub returns-then-is : goal.returns-then-is
 returns-then-is c = λ shared.
     let run = c.args.self.now in
-    let at = sym (found run.entities.now c.args.row (Some c.in-Some.other) c.in-Some.ensures.lookup) ∙ ap (λ e. Some e) (c.is.ensures.exact.0 c.if-is.true) in
+    let at =
+    sym (found run.entities.now c.args.row (Some c.in-Some.other) c.in-Some.ensures.lookup)
+    ∙ ap (λ e. Some e) (c.is.ensures.exact.0 c.if-is.true) in
     run_shows run c.requires.run c.args.row c.args.place c.args.entity at c.requires.own (c.share_entries.ensures shared)

@@ -1,5 +1,5 @@
 -- The keys of short names, the buckets that they are in, and who is found through these.
-use Rattle.std.specs.Prelude.{◌≡◌, ◌<◌, ℕ, Bool, true, false, if◌then◌else◌, ◌-◌, ◌/◌, List, [], ◌∷◌, length, slice_get}
+use Rattle.std.specs.Prelude.{◌≡◌, ◌<◌, ℕ, Bool, true, false, if◌then◌else◌, ◌-◌, ◌%◌, List, [], ◌∷◌, length, slice_get}
 use Rattle.std.specs.Prelude.{All, Option, Some, None, is_some}
 use Rattle.std.specs.Prelude.{option_map, option_and_then}
 use Rattle.std.specs.List.{remove}
@@ -32,11 +32,11 @@ text_cmp text l = ordering_then (nat_cmp (hash_of text) l.hash) (slice_cmp nat_c
 abbrev pub is_key_of : List ℕ → Key → Bool
 is_key_of text key = is_eq (text_cmp text key)
 
--- the upper half of a hash
+-- the lower half of a hash
 abbrev pub tag_of : ℕ → ℕ
-tag_of hash = hash / 4294967296
+tag_of hash = hash % 4294967296
 
--- the bucket that a hash picks by its upper half, of so many
+-- the bucket that a hash picks by its lower half, of so many
 abbrev pub bucket_of : ℕ → ℕ → ℕ
 bucket_of hash count = bit_and (tag_of hash) (count - 1)
 
@@ -72,7 +72,7 @@ abbrev pub found_among : List Kept × List Bearer → List ℕ → Option Entity
 found_among table text =
     option_and_then (λ b. found_in table.1 b text) (slice_get table.0 (bucket_of (hash_of text) (length table.0)))
 
--- a cell leads to a bearer, and shows the upper half of its hash
+-- a cell leads to a bearer, and shows the lower half of its hash
 abbrev pub Points : List Bearer → Cell → Type 0
 Points bearers c = option_map (λ b. tag_of b.key.hash) (slice_get bearers c.place) ≡ Some c.tag
 

@@ -22,7 +22,7 @@ pub(crate) struct Bearer {
     pub(crate) entity: Entity,
 }
 
-/// Where a bearer stands among all, and the upper half of its name's hash, by which most others are told apart from it.
+/// Where a bearer stands among all, and the lower half of its name's hash, by which most others are told apart from it.
 #[derive(Clone, Copy, Default, Drop)]
 pub(crate) struct Cell {
     pub(crate) tag: u32,

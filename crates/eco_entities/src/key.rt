@@ -23,6 +23,9 @@ impl Default for Key {
     }
 }
 
+// How many numbers half a hash has.
+const HALF: u64 = 1 << 32;
+
 impl Key {
     #[inline]
     pub(crate) fn new(text: Short) -> Key
@@ -37,12 +40,12 @@ impl Key {
         }
     }
 
-    /// The upper half of the hash.
+    /// The lower half of the hash.
     #[inline]
     pub(crate) fn tag(&self) -> u32
         ensures { result ≡ tag_of self.now.hash }
     {
-        (self.hash >> 32) as u32
+        (self.hash % HALF) as u32
     }
 
     /// The bucket that the key picks, of so many: a power of two, so that each is picked.

@@ -32,7 +32,7 @@ pub(crate) struct Cell {
 /// Most names of a bucket have a cell. Those that find all cells taken are in a tree: so names whose hashes are equal by choice
 /// make no look-up slow. A contract sees the cells, and the names in the tree.
 pub(crate) struct Bucket {
-    cells: ArrayVec<Cell, 7>,
+    cells: ArrayVec<Cell, 8>,
     spilled: BTreeMap<Key, Entity>,
 }
 

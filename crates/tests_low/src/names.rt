@@ -3,8 +3,9 @@ use eco_entities::EntityIndex;
 use eco_ids::Entity;
 use std::alloc::{AllocError, Global};
 
-// So many that some buckets of seven cells are full, where there are four names for a bucket.
-const MANY: u32 = 500;
+// So many that there are four for each of 256 buckets, of which some are full; and once half of them are given up, the first that
+// is given again finds that no more than half of the listed bearers' names are in use.
+const MANY: u32 = 1024;
 
 // The name of this number.
 fn name_of(alloc: Global, number: u32) -> Result<String, AllocError> {

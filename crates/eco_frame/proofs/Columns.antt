@@ -1,6 +1,7 @@
 -- Rows that columns show.
 use Rattle.eco_frame.proofs.Common.{◌≡◌, ◌≤◌, ◌<◌, ℕ, zero, suc, List, [], ◌∷◌, Option, None, Some, if◌then◌else◌, refl, sym, ap}
-use Rattle.eco_frame.proofs.Common.{◌∙◌, arith, drop, length, map, option_map, slice_get, Entity, ValuedRow, WorldState, entry_value, entry_values, valued_rows}
+use Rattle.eco_frame.proofs.Common.{◌∙◌, arith, drop}
+use Rattle.eco_frame.proofs.Common.{length, map, option_map, slice_get, Entity, ValuedRow, WorldState, entry_value, entry_values, valued_rows}
 use Rattle.std.proofs.lemmas.Option.{none-some, same_Some, slice_get-map}
 use Rattle.std.specs.Prelude.{Bool, true, false, IfNone, IfSome, ◌⊎◌}
 use Rattle.eco_ids.specs.declared.id.Id.{Id}

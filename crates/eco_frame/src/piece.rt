@@ -98,6 +98,20 @@ fn record_in_columns<'a, B: SystemBody, D: Draws>(
     Ok(())
 }
 
+impl<B> RowsPiece<'_, B> {
+    // Whether it is worth it to look for columns: there are rows enough, which may show values, and some of them, side by side and
+    // far apart, share their entries. Rows of several tables in turn do not, and each would need other columns.
+    fn is_run(&self) -> bool {
+        let count = self.end - self.first;
+        if count < FEW || !self.rows.show() {
+            return false;
+        }
+        [self.first + 1, self.first + count / 2, self.end - 1]
+            .iter()
+            .all(|place| self.rows.share_entries(self.first, *place))
+    }
+}
+
 impl<B: SystemBody> Piece for RowsPiece<'_, B> {
     ghost use Rattle.eco_frame.specs.Pieces.{piece_rows};
 
@@ -106,7 +120,7 @@ impl<B: SystemBody> Piece for RowsPiece<'_, B> {
     ghost taken = { λ p. taken_of (B.taken p.body.now) (piece_rows p) };
 
     fn record<D: Draws>(&self, draws: &mut D, stage: &mut Stage) -> Result<(), Refusal> {
-        if self.rows.show() && FEW <= self.end - self.first {
+        if self.is_run() {
             return record_in_columns(self.body, self.rows, self.first, self.end, draws, stage);
         }
         record_between(self.body, self.rows, self.first, self.end, draws, stage)

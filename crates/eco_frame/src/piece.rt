@@ -1,5 +1,5 @@
 //! Pieces of a batch.
-ghost use Rattle.std.specs.Prelude.{◌≡◌, ◌-◌, ◌≤◌, drop, false, length, take, IfErr, IfOk};
+ghost use Rattle.std.specs.Prelude.{◌≡◌, ◌+◌, ◌-◌, ◌≤◌, drop, false, length, take, IfErr, IfOk};
 ghost use Rattle.eco_bodies.specs.Taking.{commands_in_turn, taken_of};
 ghost use Rattle.eco_stages.specs.Taking.{Broke, Took, stopped_by};
 
@@ -99,16 +99,17 @@ fn record_in_columns<'a, B: SystemBody, D: Draws>(
 }
 
 impl<B> RowsPiece<'_, B> {
-    // Whether it is worth it to look for columns: there are rows enough, which may show values, and some of them, side by side and
-    // far apart, share their entries. Rows of several tables in turn do not, and each would need other columns.
-    fn is_run(&self) -> bool {
-        let count = self.end - self.first;
-        if count < FEW || !self.rows.show() {
-            return false;
-        }
-        [self.first + 1, self.first + count / 2, self.end - 1]
-            .iter()
-            .all(|place| self.rows.share_entries(self.first, *place))
+    // Whether some of its rows, side by side and far apart, share their entries, and may show values. Rows of several tables in
+    // turn do not, and each would need other columns.
+    #[inline(never)]
+    fn is_run(&self) -> bool
+        requires { self.now.first + FEW ≤ self.now.end }
+    {
+        let middle = self.first + (self.end - self.first) / 2;
+        self.rows.show()
+            && [self.first + 1, middle, self.end - 1]
+                .iter()
+                .all(|place| self.rows.share_entries(self.first, *place))
     }
 }
 
@@ -120,7 +121,7 @@ impl<B: SystemBody> Piece for RowsPiece<'_, B> {
     ghost taken = { λ p. taken_of (B.taken p.body.now) (piece_rows p) };
 
     fn record<D: Draws>(&self, draws: &mut D, stage: &mut Stage) -> Result<(), Refusal> {
-        if self.is_run() {
+        if FEW <= self.end - self.first && self.is_run() {
             return record_in_columns(self.body, self.rows, self.first, self.end, draws, stage);
         }
         record_between(self.body, self.rows, self.first, self.end, draws, stage)

@@ -33,7 +33,8 @@ no_choice ids (s ∷ q) h = by (no_choice ids q) (holds ids s.term) refl h
     by rest true e h = no_rest (entries_of ids s.term) (choices ids (asked q)) (rest h)
     by rest false e h = no_entry (entries_of ids s.term) (choices ids (asked q)) e
 
-some_led : {X : Type 0} (es : List X) (cs : List (List X)) → has_any es ≡ true → 0 < length cs → 0 < length (flat_map (λ e. map (λ rest. e ∷ rest) cs) es)
+some_led : {X : Type 0} (es : List X) (cs : List (List X)) → has_any es ≡ true → 0 < length cs
+    → 0 < length (flat_map (λ e. map (λ rest. e ∷ rest) cs) es)
 some_led [] cs h some = absurd (true≢false (sym h))
 some_led (e ∷ es) cs h some =
     let both = length-append (map (λ rest. e ∷ rest) cs) (flat_map (λ e. map (λ rest. e ∷ rest) cs) es) in
@@ -85,7 +86,8 @@ passing_answers q (p ∷ ps) h = by (passing_answers q ps) (passing q p) refl h
     one : length (of_one q p) ≡ length (choices (record_ids p.1) (asked q))
     one = length-map (choices (record_ids p.1) (asked q)) (λ es. let r : answers.Row = record { entity = p.0; entries = es } in r)
 
-    by : (list_any (passing q) ps ≡ true → 0 < length (flat_map (of_one q) ps)) → (b : Bool) → passing q p ≡ b → (b || list_any (passing q) ps) ≡ true
+    by : (list_any (passing q) ps ≡ true → 0 < length (flat_map (of_one q) ps)) → (b : Bool) → passing q p ≡ b
+        → (b || list_any (passing q) ps) ≡ true
         → 0 < length (of_one q p ++ flat_map (of_one q) ps)
     by rest true e h = let some = some_choice (record_ids p.1) q e in omega (arith, both, one, some)
     by rest false e h = let some = rest h in omega (arith, both, some)
@@ -134,7 +136,8 @@ abbrev HasAt : Indexed Record → ℕ → List (IndexState Record) → Type 0
 HasAt w n xs = (k g : ℕ) (r : Record) → slice_get xs k ≡ Some (Living g r) → record_of w (record { index = n + k; generation = g }) ≡ Some r
 
 one_on : (w : Indexed Record) (n : ℕ) (x : IndexState Record) (xs : List (IndexState Record)) → HasAt w n (x ∷ xs) → HasAt w (n + 1) xs
-one_on w n x xs h = λ k g r at. let e : n + 1 + k ≡ n + suc k = omega arith in ap (λ j. record_of w (record { index = j; generation = g })) e ∙ h (suc k) g r at
+one_on w n x xs h = λ k g r at. let e : n + 1 + k ≡ n + suc k = omega arith in ap (λ j. record_of w (record { index = j; generation = g })) e
+    ∙ h (suc k) g r at
 
 living_kept : (w : Indexed Record) (n : ℕ) (xs : List (IndexState Record)) → HasAt w n xs
     → AllByRecursion (λ (p : Kept). record_of w p.0 ≡ Some p.1) (living_from n xs)
@@ -187,7 +190,8 @@ each_fits w tables ns q (s ∷ ss) (p ∷ ps) same right kept pass =
 
 -- all who pass stand in tables whose types fulfil the query
 pub all_fit : (w : Indexed Record) (tables : List (Option TableState)) (ns : List ℕ) (q : List QuerySlot) (ss : List Standing)
-    → map (λ (s : Standing). s.entity) ss ≡ entities_whose w (λ ids. matches_type ids q) → All (StandsIn w tables ns) ss → All (FitsQuery tables ns q) ss
+    → map (λ (s : Standing). s.entity) ss ≡ entities_whose w (λ ids. matches_type ids q) → All (StandsIn w tables ns) ss
+    → All (FitsQuery tables ns q) ss
 all_fit w tables ns q ss are right =
     All-from_recursion (FitsQuery tables ns q) ss
     (each_fits w tables ns q ss (filter (passing q) (living w)) are (recursion_from_All (StandsIn w tables ns) ss right)

@@ -43,7 +43,8 @@ rows_show all e first (suc n) within =
 -- ---- together
 
 -- the rows of a block show the results of an entity with the ids whose choices it has
-block_shows : (all : List (List (Option Id))) (e : Entity) (b : Block) (ids : List Id) (terms : List QueryTerm) → IsBlock all (answers.choices ids terms) b →
+block_shows : (all : List (List (Option Id))) (e : Entity) (b : Block) (ids : List Id) (terms : List QueryTerm)
+    → IsBlock all (answers.choices ids terms) b →
     map (shown all) (standings_in b e) ≡ results e ids terms
 block_shows all e b ids terms is =
     rows_show all e b.first (b.end - b.first) (let r = is.rises in let w = is.within in omega (arith, r, w))

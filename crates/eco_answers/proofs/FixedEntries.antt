@@ -49,7 +49,8 @@ exact_fixed p i is =
 pub not_fixed : (p : Pattern) → IsFixed (terms.Not p) None
 not_fixed p ids up h = by (list_any (pattern_matches p) ids) h
   where
-    by : (b : Bool) → has_any {A = Option Id} (if b then [] else None ∷ []) ≡ true → ◌≡◌ {A = List (Option Id)} (if b then [] else None ∷ []) (None ∷ [])
+    by : (b : Bool) → has_any {A = Option Id} (if b then [] else None ∷ []) ≡ true
+        → ◌≡◌ {A = List (Option Id)} (if b then [] else None ∷ []) (None ∷ [])
     by true h = absurd (true≢false (sym h))
     by false h = refl
 
@@ -68,7 +69,8 @@ pub slot_fixed : (slots : List Slot) (k : ℕ) (s : Slot) (es new : List (Option
 slot_fixed slots k s es new e lt all at one are =
     subst (AreFixed (asks (take (k + 1) slots))) (sym are)
     (subst (λ ts. AreFixed ts (es ++ e ∷ []))
-    (sym (ap asks (take_more slots k s lt ∙ ap (λ z. take k slots ++ z ∷ []) at) ∙ map-append (λ (z : Slot). term_view z.term) (take k slots) (s ∷ [])))
+    (sym (ap asks (take_more slots k s lt ∙ ap (λ z. take k slots ++ z ∷ []) at)
+    ∙ map-append (λ (z : Slot). term_view z.term) (take k slots) (s ∷ [])))
     (more_fixed (asks (take k slots)) es (term_view s.term) e all one))
 
 pub fixed_long : (ts : List QueryTerm) (es : List (Option Id)) → AreFixed ts es → length es ≡ length ts

@@ -23,7 +23,8 @@ any-filter f p (x ∷ xs) = by (any-filter f p xs) (p x)
     by rest false = rest
 
 -- what is among those that pass two tests passes the first
-any_filtered : {X Y : Type 0} (f : X → Y) (p q : X → Bool) (xs : List X) → has_any (map f (filter (λ x. p x && q x) xs)) ≡ true → list_any p xs ≡ true
+any_filtered : {X Y : Type 0} (f : X → Y) (p q : X → Bool) (xs : List X) → has_any (map f (filter (λ x. p x && q x) xs)) ≡ true
+    → list_any p xs ≡ true
 any_filtered f p q xs h =
     let some = any_is (λ x. p x && q x) xs (sym (any-filter f (λ x. p x && q x) xs) ∙ h) in some.2 p (first (p some.0) (q some.0) some.1)
 
@@ -44,7 +45,8 @@ found_matches : (ids is : List Id) → has_any (map (λ (i : Id). Some i) (optio
 found_matches ids [] h = h
 found_matches ids (i ∷ is) h = by (found_matches ids is) (has_item id_cmp ids i) refl h
   where
-    by : (has_any (map (λ (i : Id). Some i) (option_to_list (find (has_item id_cmp ids) is))) ≡ true → list_any (any_matches ids) (map exactly is) ≡ true)
+    by : (has_any (map (λ (i : Id). Some i) (option_to_list (find (has_item id_cmp ids) is))) ≡ true
+        → list_any (any_matches ids) (map exactly is) ≡ true)
         → (b : Bool) → has_item id_cmp ids i ≡ b
         → has_any (map (λ (i : Id). Some i) (option_to_list (cond (has_item id_cmp ids i) (Some i) (find (has_item id_cmp ids) is)))) ≡ true
         → (any_matches ids (exactly i) || list_any (any_matches ids) (map exactly is)) ≡ true
@@ -147,7 +149,8 @@ plain_holds ids p found =
         let matches = first (pattern_matches p one.0) _ (second (is_lt (id_cmp one.0 i)) _ one.1) in
         absurd (not_less i one.0 (least one.0 (both _ _ one.2 matches)) lt)
 
-    by : ((i : Id) × IsLeastOf id_cmp (λ i. IsTrue (is_match i)) i) ⊎ ((i : Id) → IsTrue (is_match i) → ⊥) → list_any (is_least_match p ids) ids ≡ true
+    by : ((i : Id) × IsLeastOf id_cmp (λ i. IsTrue (is_match i)) i) ⊎ ((i : Id) → IsTrue (is_match i) → ⊥)
+        → list_any (is_least_match p ids) ids ≡ true
     by (inl l) = item_passes ids l.0 (is_least_match p ids) (first _ _ l.1.passes)
         (both _ _ (second (has_item id_cmp ids l.0) _ l.1.passes) (none_less l.0 l.1.least _ refl))
     by (inr none) = let one = among (pattern_matches p) found in absurd (none one.0 (both _ _ one.2 one.1))
@@ -176,7 +179,8 @@ one_holds ids (i ∷ is) h = by (one_holds ids is) (has_item id_cmp ids i) refl
     other true b h absent = absurd (absent refl)
     other false b h absent = h
 
-    by : (list_any (any_matches ids) (map exactly is) ≡ true → has_any (map (λ (i : Id). Some i) (option_to_list (find (has_item id_cmp ids) is))) ≡ true)
+    by : (list_any (any_matches ids) (map exactly is) ≡ true
+        → has_any (map (λ (i : Id). Some i) (option_to_list (find (has_item id_cmp ids) is))) ≡ true)
         → (b : Bool) → has_item id_cmp ids i ≡ b
         → has_any (map (λ (i : Id). Some i) (option_to_list (cond b (Some i) (find (has_item id_cmp ids) is)))) ≡ true
     by rest true e = refl

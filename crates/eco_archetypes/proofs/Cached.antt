@@ -55,7 +55,8 @@ module _ (test : List Id → Bool) (s : Slots) where
   rowed_some slots passing h = some_of slots (λ n in_it. sym (passing n) ∙ in_it) h
 
   -- what a search among them answers
-  pub answers_all : {E : Type 0} {V : Type 0} (items : V → List ℕ) (r : Result V E) (slots : List ℕ) → ArePassing test s slots → IsDistinct nat_eq slots
+  pub answers_all : {E : Type 0} {V : Type 0} (items : V → List ℕ) (r : Result V E) (slots : List ℕ) → ArePassing test s slots
+      → IsDistinct nat_eq slots
       → IfOk r (λ v. items v ≡ filter (has_rows s) slots) → IfOk r (λ v. IsAllFound test s (items v))
   answers_all items (Ok v) slots passing once is = rw is (rowed_found slots passing once)
   answers_all items (Err e) slots passing once is = is

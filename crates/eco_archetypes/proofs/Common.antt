@@ -17,11 +17,12 @@ pub use Rattle.std.specs.List.{All, IsDistinct, list_all, list_any}
 pub use Rattle.std.specs.Map.{lookup}
 pub use Rattle.std.specs.Option.{option_copied}
 pub use Rattle.std.specs.Ordering.{int_eq, is_eq}
-pub use Rattle.eco_archetypes.specs.Archetypes.{ArePassing, FindsSome, IsAllFound, IsArchetypes, IsIdIndex, KeepsRoom, KeepsTypes, RowlessBut, RowlessIn}
+pub use Rattle.eco_archetypes.specs.Archetypes.{ArePassing, FindsRoom, FindsSome, IsAllFound, IsArchetypes, IsIdIndex, KeepsRoom, KeepsTypes}
+pub use Rattle.eco_archetypes.specs.Archetypes.{RowlessBut, RowlessIn}
 pub use Rattle.eco_archetypes.specs.Archetypes.{SameRows, SameSlots, SomeHasType, TakesType, has_one_of, has_rows, is_found_by, is_found_in, is_rowless}
 pub use Rattle.eco_archetypes.specs.Archetypes.{passes_at, standing_in, type_at, type_matches}
 pub use Rattle.eco_archetypes.specs.Naming.{is_named_by_some, names_in}
-pub use Rattle.eco_archetypes.specs.Sweeping.{DropsRowless, IsLess, has_table}
+pub use Rattle.eco_archetypes.specs.Sweeping.{DropsRowless, IsLess, Sweeps, has_table}
 pub use Rattle.eco_archetypes.specs.Widths.{AreAgreed, AreWidths, FitsIn, IsWidth, KeepsWidths, MeetsNeeds, StillCover}
 pub use Rattle.eco_caches.proofs.Caching.{exact_types, then_told}
 pub use Rattle.eco_caches.specs.Caching.{AreExact, AreOnly, AreThose, AreTold, ChangesType, StayExact, choices_on, fulfils}
@@ -30,7 +31,7 @@ pub use Rattle.eco_entities.specs.Needs.{need}
 pub use Rattle.eco_entries.specs.Answers.{asks}
 pub use Rattle.eco_ids.proofs.Ascending.{both, first, has_at, remove_is_without, second}
 pub use Rattle.eco_ids.proofs.Exact.{id_eq_sym}
-pub use Rattle.eco_ids.proofs.Facts.{any_is, equal_tie, id_eq_is, id_eq_itself, or_left, or_parts, or_right}
+pub use Rattle.eco_ids.proofs.Facts.{any_is, equal_tie, id_eq_is, id_eq_itself, or_left, or_parts, or_right, same_tests}
 pub use Rattle.eco_ids.proofs.IdOrder.{id_cmp_total, same_id}
 pub use Rattle.eco_ids.proofs.Results.{err_says, on_ok}
 pub use Rattle.eco_ids.proofs.SetLaws.{joins_with, leaves_without}
@@ -40,7 +41,7 @@ pub use Rattle.eco_ids.specs.declared.pattern.Pattern.{Pattern}
 pub use Rattle.eco_index.proofs.Graphs.{graph_cut, graph_linked, graph_made}
 pub use Rattle.eco_index.proofs.Toggles.{lost_again, toggled_other, twice}
 pub use Rattle.eco_index.proofs.TypeMaps.{type_decided, type_map-insert, type_map-remove}
-pub use Rattle.eco_index.proofs.TypeTests.{names_match, same_truth}
+pub use Rattle.eco_index.proofs.TypeTests.{names_match}
 pub use Rattle.eco_index.specs.Edges.{Cuts, IsGraph, IsTwofold, Links, SameEdges, edge, exchanged, toggled}
 pub use Rattle.eco_index.specs.IdIndex.{Lists, ListsSame, Turns, any_matches, is_own, lists_of, matches_id}
 pub use Rattle.eco_index.specs.TypeMap.{IsTypeMap, LeadAlike, LeadsAlone, LeadsGrown, TakesGrown, same_ids}

@@ -15,16 +15,19 @@ exchanged_other : (ids : List Id) (i j : Id) → has_item id_cmp ids j ≡ false
 exchanged_other ids i j lacks same = true≢false (sym (comes ids i j) ∙ ap (λ xs. has_item id_cmp xs j) same ∙ lacks)
 
 -- the two stand in two slots
-pub exchanged_apart : (s : List (Option TableState)) (n m : ℕ) (ids : List Id) (i j : Id) → type_at s n ≡ Some ids → type_at s m ≡ Some (exchanged ids i j)
+pub exchanged_apart : (s : List (Option TableState)) (n m : ℕ) (ids : List Id) (i j : Id) → type_at s n ≡ Some ids
+    → type_at s m ≡ Some (exchanged ids i j)
     → has_item id_cmp ids j ≡ false → n ≢ m
 exchanged_apart s n m ids i j from to lacks same = exchanged_other ids i j lacks (same_Some _ _ (sym to ∙ sym (ap (type_at s) same) ∙ from))
 
 -- the first id goes, and the second one comes
-pub in_two_steps : (ids : List Id) (i j : Id) → has_item id_cmp ids i ≡ true → has_item id_cmp ids j ≡ false → toggled (toggled ids i) j ≡ exchanged ids i j
+pub in_two_steps : (ids : List Id) (i j : Id) → has_item id_cmp ids i ≡ true → has_item id_cmp ids j ≡ false
+    → toggled (toggled ids i) j ≡ exchanged ids i j
 in_two_steps ids i j there lacks =
     let less = without_item id_cmp ids i in
     let one : toggled ids i ≡ less = ap (λ b. cond b less (with_item id_cmp ids i)) there in
-    let gone : has_item id_cmp less j ≡ false = leaves_without id_cmp_total ids i j ∙ ap (λ b. not (id_eq i j) && b) lacks ∙ and_false (not (id_eq i j)) in
+    let gone : has_item id_cmp less j ≡ false = leaves_without id_cmp_total ids i j ∙ ap (λ b. not (id_eq i j) && b) lacks
+    ∙ and_false (not (id_eq i j)) in
     ap (λ xs. toggled xs j) one ∙ ap (λ b. cond b (without_item id_cmp less j) (with_item id_cmp less j)) gone
   where
     and_false : (b : Bool) → (b && false) ≡ false

@@ -8,7 +8,8 @@ some_none : {X P : Type 0} (x : X) → Some x ≡ None → P
 some_none x e = absurd (cc)
 
 -- tables of which one has the id more stand in two slots
-pub apart_by_type : (s : List (Option TableState)) (n m : ℕ) (i : Id) (ids : List Id) → type_at s n ≡ Some ids → type_at s m ≡ Some (toggled ids i) → n ≢ m
+pub apart_by_type : (s : List (Option TableState)) (n m : ℕ) (i : Id) (ids : List Id) → type_at s n ≡ Some ids
+    → type_at s m ≡ Some (toggled ids i) → n ≢ m
 apart_by_type s n m i ids from to same = toggled_other ids i (same_Some _ _ (sym to ∙ sym (ap (type_at s) same) ∙ from))
 
 -- what holds of the slot that a call answers

@@ -35,7 +35,8 @@ module _ (s s' : List (Option TableState)) (n : ℕ) (ids : List Id) (ws : List 
 
   apart_from_new : (k : ℕ) (own : List Id) → type_at s k ≡ Some own → k ≢ n
   apart_from_new k own had here =
-      let bad : ◌≡◌ {A = Option (List Id)} None (Some own) = sym (ap (option_map (λ (t : TableState). t.ids)) vacant) ∙ sym (ap (type_at s) here) ∙ had in
+      let bad : ◌≡◌ {A = Option (List Id)} None (Some own) = sym (ap (option_map (λ (t : TableState). t.ids)) vacant)
+      ∙ sym (ap (type_at s) here) ∙ had in
       absurd (cc)
 
   pub made_types : KeepsTypes s s'
@@ -49,13 +50,15 @@ module _ (s s' : List (Option TableState)) (n : ℕ) (ids : List Id) (ws : List 
     roomy_types k own had = room_types k ∙ made_types k own had
 
     -- and is dropped
-    pub dropped_types : (s3 : List (Option TableState)) (o : Option (List Id)) → OnSome o (SetsSlot s2 s3 n None) → IfNone o (SameSlots s2 s3) → KeepsTypes s s3
+    pub dropped_types : (s3 : List (Option TableState)) (o : Option (List Id)) → OnSome o (SetsSlot s2 s3 n None) → IfNone o (SameSlots s2 s3)
+        → KeepsTypes s s3
     dropped_types s3 None dropped kept k own had = ap (option_map (λ (t : TableState). t.ids)) (kept k) ∙ roomy_types k own had
     dropped_types s3 (Some gone) dropped kept k own had =
         ap (option_map (λ (t : TableState). t.ids)) (dropped.others k (apart_from_new k own had)) ∙ roomy_types k own had
 
 -- a table that was made is dropped again
-pub unmade : (s s1 s2 : List (Option TableState)) (n : ℕ) (ids : List Id) (ws : List ℕ) → slot_of s n ≡ None → SetsSlot s s1 n (Some (empty_table ids ws))
+pub unmade : (s s1 s2 : List (Option TableState)) (n : ℕ) (ids : List Id) (ws : List ℕ) → slot_of s n ≡ None
+    → SetsSlot s s1 n (Some (empty_table ids ws))
     → OnSome (rowless_type (slot_of s1 n)) (SetsSlot s1 s2 n None) → SameSlots s s2
 unmade s s1 s2 n ids ws vacant sets dropped k =
     let gone : SetsSlot s1 s2 n None = subst (λ o. OnSome (rowless_type o) (SetsSlot s1 s2 n None)) sets.changed dropped in

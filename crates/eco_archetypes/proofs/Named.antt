@@ -1,7 +1,7 @@
 -- Whom the types of tables name.
 use Rattle.eco_archetypes.proofs.Common.{◌≡◌, ℕ, zero, suc, Bool, true, false, ◌↔◌, inl, inr, List, [], ◌∷◌, nat_lt, length, Option, Some}
 use Rattle.eco_archetypes.proofs.Common.{None, option_map, refl, sym, ◌∙◌, true≢false, IsTrue, list_any, false_from_ne_true, Id, second, or_parts}
-use Rattle.eco_archetypes.proofs.Common.{or_right, TableState, slot_of, Lists, type_names, naming, names_match, same_truth, IsIdIndex, has_one_of, is_found_by}
+use Rattle.eco_archetypes.proofs.Common.{or_right, TableState, slot_of, Lists, type_names, naming, names_match, same_tests, IsIdIndex, has_one_of, is_found_by}
 use Rattle.eco_archetypes.proofs.Common.{type_at, is_named_by_some, names_in}
 use Rattle.std.proofs.lemmas.Bool.{or_left}
 use Rattle.eco_ids.specs.declared.entity.Entity.{Entity}
@@ -32,7 +32,7 @@ some_slot_names e (o ∷ slots) h =
 pub listed_named : (slots : List (Option TableState)) (now : Lists) (e : Entity) → IsIdIndex (type_at slots) now → (r : Bool)
     → IsTrue r ↔ ListsSome now (naming e) → r ≡ is_named_by_some slots e
 listed_named slots now e index r is =
-    same_truth r (is_named_by_some slots e)
+    same_tests r (is_named_by_some slots e)
     (λ h. let some = is.0 h in at_slot e slots some.0 (sym (listed some.0) ∙ some.1))
     (λ h. let some = some_slot_names e slots h in is.1 (some.0, listed some.0 ∙ some.1))
   where

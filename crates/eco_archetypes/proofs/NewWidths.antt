@@ -38,7 +38,8 @@ listed_has s n i = by (slot_of s n)
     by None h = absurd (true≢false (sym h))
     by (Some t) h = (refl, sym (any_has t.ids i) ∙ h)
 
-width_listed : (s : List (Option TableState)) (n : ℕ) (i : Id) (k : ℕ) → width_in (table_in s n) i ≡ Some k → type_matches (type_at s n) (exactly i) ≡ true
+width_listed : (s : List (Option TableState)) (n : ℕ) (i : Id) (k : ℕ) → width_in (table_in s n) i ≡ Some k
+    → type_matches (type_at s n) (exactly i) ≡ true
 width_listed s n i k = by (slot_of s n)
   where
     by : (o : Option TableState) → width_in (unwrap_or o no_table) i ≡ Some k
@@ -47,7 +48,8 @@ width_listed s n i k = by (slot_of s n)
     by (Some t) h = any_has t.ids i ∙ paired_has t.ids t.widths i k h
 
 -- as wide as in a table that has the id
-pub width_as : (need : Id → ℕ) (s : List (Option TableState)) (n : ℕ) (i : Id) (w : ℕ) → AreAgreed s → w ≤ FIELD_COUNT → width_in (table_in s n) i ≡ Some w
+pub width_as : (need : Id → ℕ) (s : List (Option TableState)) (n : ℕ) (i : Id) (w : ℕ) → AreAgreed s → w ≤ FIELD_COUNT
+    → width_in (table_in s n) i ≡ Some w
     → IsWidth need s i w
 width_as need s n i w agreed few at = record {
   few = few;
@@ -56,7 +58,8 @@ width_as need s n i w agreed few at = record {
 }
 
 -- as wide as the id may need, where no table has it
-pub width_new : (need : Id → ℕ) (s : List (Option TableState)) (i : Id) (w : ℕ) → ((n : ℕ) → type_matches (type_at s n) (exactly i) ≡ false) → w ≤ FIELD_COUNT
+pub width_new : (need : Id → ℕ) (s : List (Option TableState)) (i : Id) (w : ℕ)
+    → ((n : ℕ) → type_matches (type_at s n) (exactly i) ≡ false) → w ≤ FIELD_COUNT
     → w ≡ need i → IsWidth need s i w
 width_new need s i w none few is = record {
   few = few;

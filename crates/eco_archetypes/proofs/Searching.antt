@@ -3,7 +3,7 @@ use Rattle.eco_archetypes.proofs.Common.{◌≡◌, ℕ, zero, suc, ◌<◌, Boo
 use Rattle.eco_archetypes.proofs.Common.{◌∷◌, ◌++◌, length, filter, get_or, slice_get, Option, Some, None, option_map, refl, sym, ap, ◌∙◌}
 use Rattle.eco_archetypes.proofs.Common.{arith, add-one, ◌+◌, take, All, list_any, IsDistinct, Decides-eqb, any-filter_same, list_any-append}
 use Rattle.eco_archetypes.proofs.Common.{get_or_from_slice_get, same_Some, Id, Pattern, both, first, second, any_is, or_right, TableState, slot_of, AreNeeded}
-use Rattle.eco_archetypes.proofs.Common.{group_at, type_matches_one, passes_with, passes_without, any_matches, same_truth, type_at, type_matches, has_one_of}
+use Rattle.eco_archetypes.proofs.Common.{group_at, type_matches_one, passes_with, passes_without, any_matches, same_tests, type_at, type_matches, has_one_of}
 use Rattle.eco_archetypes.proofs.Common.{is_found_by, is_found_in, FindsSome, IsAllFound}
 use Rattle.std.proofs.Math.Seq.{take-length, take-suc}
 use Rattle.eco_index.proofs.Keys.{and_true, or_false}
@@ -27,7 +27,8 @@ has_before (q ∷ ps) (suc place) zero p o earlier at h = ap (λ b. b || has_one
 has_before (q ∷ ps) (suc place) (suc before) p o earlier at h =
     or_right (type_matches o q) (has_one_of (take place ps) o) (has_before ps place before p o (omega (arith, earlier)) at h)
 
-more_taken : (ps : List Pattern) (place : ℕ) (p : Pattern) → place < length ps → slice_get ps place ≡ Some p → take (place + 1) ps ≡ take place ps ++ p ∷ []
+more_taken : (ps : List Pattern) (place : ℕ) (p : Pattern) → place < length ps → slice_get ps place ≡ Some p
+    → take (place + 1) ps ≡ take place ps ++ p ∷ []
 more_taken ps place p within at =
     rw (add-one) (take-suc ps place p within ∙ ap (λ q. take place ps ++ q ∷ []) (get_or_from_slice_get ps place p p at))
 
@@ -61,7 +62,8 @@ new_is test ps s n = by (slot_of s n)
     by (Some t) = turned (not (type_matches_one ps t.ids)) (nat_lt 0 (length t.rows)) (test t.ids)
 
 -- a stronger test finds no other tables
-weaker : (f g : List Id → Bool) → ((ids : List Id) → f ids ≡ true → g ids ≡ true) → (o : Option TableState) → is_found_by f o ≡ true → is_found_by g o ≡ true
+weaker : (f g : List Id → Bool) → ((ids : List Id) → f ids ≡ true → g ids ≡ true) → (o : Option TableState) → is_found_by f o ≡ true
+    → is_found_by g o ≡ true
 weaker f g less None h = h
 weaker f g less (Some t) h = both _ _ (first (nat_lt 0 (length t.rows)) (f t.ids) h) (less t.ids (second (nat_lt 0 (length t.rows)) (f t.ids) h))
 
@@ -95,14 +97,15 @@ none_first test s n = sym ((none_yet test s).listed n)
 needed_is : (test : List Id → Bool) (groups : List (List Pattern)) (k : ℕ) → AreNeeded test groups → k < length groups
     → (ids : List Id) → passes_with test (group_at groups k) ids ≡ test ids
 needed_is test groups k needed within ids =
-    same_truth (passes_with test (group_at groups k) ids) (test ids)
+    same_tests (passes_with test (group_at groups k) ids) (test ids)
     (λ h. second (type_matches_one (group_at groups k) ids) (test ids) h)
     (λ h. both (type_matches_one (group_at groups k) ids) (test ids) (needed ids h k [] within) h)
 
 whole_group : (test : List Id → Bool) (groups : List (List Pattern)) (k count : ℕ) → AreNeeded test groups → k < length groups
     → count ≡ length (group_at groups k) → (ids : List Id) → passes_with test (take count (group_at groups k)) ids ≡ test ids
 whole_group test groups k count needed within is ids =
-    ap (λ ps. passes_with test ps ids) (ap (λ n. take n (group_at groups k)) is ∙ take-length (group_at groups k)) ∙ needed_is test groups k needed within ids
+    ap (λ ps. passes_with test ps ids) (ap (λ n. take n (group_at groups k)) is ∙ take-length (group_at groups k))
+    ∙ needed_is test groups k needed within ids
 
 pub all_found : (test : List Id → Bool) (groups : List (List Pattern)) (k count : ℕ) (s : List (Option TableState)) (found : List ℕ)
     → AreNeeded test groups → k < length groups → count ≡ length (group_at groups k)
@@ -204,7 +207,8 @@ module _ (s : List (Option TableState)) (test : List Id → Bool) (xs : List ℕ
         same_found : (m : ℕ) → is_found_in test s n ≡ true → nat_eq n m ≡ true → is_found_in test s m ≡ true
         same_found m h same = ap (is_found_in test s) (sym ((Decides-eqb n m).0 same)) ∙ h
 
-        other : (a b : Bool) → is_found_in test s n ≡ a → type_matches (type_at s n) p ≡ b → (is_found_in test s n && type_matches (type_at s n) p) ≡ false
+        other : (a b : Bool) → is_found_in test s n ≡ a → type_matches (type_at s n) p ≡ b
+            → (is_found_in test s n && type_matches (type_at s n) p) ≡ false
         other true true is matches =
             absurd (true≢false (sym (any_weaker (nat_eq n) (is_found_in test s) (λ m. same_found m is) xs (here n ∙ matches)) ∙ none))
         other false b is matches = ap (λ x. x && type_matches (type_at s n) p) is

@@ -155,7 +155,8 @@ module _ (s s' : List (Option TableState)) (n : ℕ) (ids : List Id) (i : Id) (w
     | inr other ↦ inr (sym (ap (λ o. width_in (unwrap_or o no_table) j) (sets.others m other)) ∙ e)
   ]
     where
-      by : m ≡ n → k ≡ (if id_eq j i then w else unwrap_or (width_in (table_in s n) j) 0) → has_item id_cmp ids j ≡ true → (b : Bool) → id_eq j i ≡ b
+      by : m ≡ n → k ≡ (if id_eq j i then w else unwrap_or (width_in (table_in s n) j) 0) → has_item id_cmp ids j ≡ true → (b : Bool)
+          → id_eq j i ≡ b
           → ((j ≡ i) × (k ≡ w) × (has_item id_cmp ids i ≡ true)) ⊎ (width_in (table_in s m) j ≡ Some k)
       by here is has true same =
           inl (
@@ -180,7 +181,8 @@ module _ (s s' : List (Option TableState)) (n : ℕ) (ids : List Id) (i : Id) (w
   pub gained_covers : (need : Id → ℕ) → need i ≤ w → MeetsNeeds need s → MeetsNeeds need s'
   gained_covers need enough covers = record { each = λ m j k e. by m j k (turned_in m j k e) }
     where
-      by : (m : ℕ) (j : Id) (k : ℕ) → ((j ≡ i) × (k ≡ w) × (has_item id_cmp ids i ≡ true)) ⊎ (width_in (table_in s m) j ≡ Some k) → need j ≤ k
+      by : (m : ℕ) (j : Id) (k : ℕ) → ((j ≡ i) × (k ≡ w) × (has_item id_cmp ids i ≡ true)) ⊎ (width_in (table_in s m) j ≡ Some k)
+          → need j ≤ k
       by m j k (inl x) = rw (x.0, x.1) enough
       by m j k (inr x) = covers.each m j k x
 
@@ -223,7 +225,8 @@ kept_slots s s' n sets m = elim (cases_eq m n) [
   | inr other ↦ sets.others m other
 ]
 
-pub index_slots : (s s' : List (Option TableState)) (l l' : Lists) → IsIdIndex (type_at s) l → SameSlots s s' → ListsSame l l' → IsIdIndex (type_at s') l'
+pub index_slots : (s s' : List (Option TableState)) (l l' : Lists) → IsIdIndex (type_at s) l → SameSlots s s' → ListsSame l l'
+    → IsIdIndex (type_at s') l'
 index_slots s s' l l' index same lists p n =
     lists p n ∙ index p n ∙ ap (λ o. type_matches (option_map (λ (t : TableState). t.ids) o) p) (sym (same n))
 

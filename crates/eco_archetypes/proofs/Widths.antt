@@ -82,7 +82,8 @@ widths_lengths need s [] (w ∷ ws) ok = absurd ok
 widths_lengths need s (i ∷ is) [] ok = absurd ok
 widths_lengths need s (i ∷ is) (w ∷ ws) ok = ap suc (widths_lengths need s is ws ok.1)
 
-pub widths_few : (need : Id → ℕ) (s : List (Option TableState)) (ids : List Id) (ws : List ℕ) → AreWidths need s ids ws → All (λ w. w ≤ FIELD_COUNT) ws
+pub widths_few : (need : Id → ℕ) (s : List (Option TableState)) (ids : List Id) (ws : List ℕ) → AreWidths need s ids ws
+    → All (λ w. w ≤ FIELD_COUNT) ws
 widths_few need s [] [] ok k d within = absurd (omega arith)
 widths_few need s [] (w ∷ ws) ok k d within = absurd ok
 widths_few need s (i ∷ is) [] ok k d within = absurd ok
@@ -90,7 +91,8 @@ widths_few need s (i ∷ is) (w ∷ ws) ok zero d within = ok.0.few
 widths_few need s (i ∷ is) (w ∷ ws) ok (suc k) d within = widths_few need s is ws ok.1 k d (omega arith)
 
 -- one more
-widths_more : (need : Id → ℕ) (s : List (Option TableState)) (ids : List Id) (ws : List ℕ) (i : Id) (w : ℕ) → AreWidths need s ids ws → IsWidth need s i w
+widths_more : (need : Id → ℕ) (s : List (Option TableState)) (ids : List Id) (ws : List ℕ) (i : Id) (w : ℕ) → AreWidths need s ids ws
+    → IsWidth need s i w
     → AreWidths need s (ids ++ i ∷ []) (ws ++ w ∷ [])
 widths_more need s [] [] i w ok is = (is, tt)
 widths_more need s [] (v ∷ ws) i w ok is = absurd ok
@@ -122,7 +124,8 @@ module _ (need : Id → ℕ) (s s' : List (Option TableState)) (n : ℕ) (ids : 
   at_new m here = ap (λ k. kinds (slot_of s' k)) here ∙ ap kinds sets.changed
 
   -- who has the id had it, or is the new table
-  made_in : (m : ℕ) (i : Id) (k : ℕ) → width_in (table_in s' m) i ≡ Some k → (width_in (table_in s m) i ≡ Some k) ⊎ ((m ≡ n) × IsWidth need s i k)
+  made_in : (m : ℕ) (i : Id) (k : ℕ) → width_in (table_in s' m) i ≡ Some k
+      → (width_in (table_in s m) i ≡ Some k) ⊎ ((m ≡ n) × IsWidth need s i k)
   made_in m i k e = elim (cases_eq m n) [
     | inl here ↦ inr (here, width_found need s ids ws i k ok (ap (find id_cmp i) (sym (at_new m here)) ∙ e))
     | inr other ↦ inl (ap (λ o. find id_cmp i (kinds o)) (sym (sets.others m other)) ∙ e)
@@ -201,7 +204,8 @@ fits_each s n i v fit k at =
 
 -- ---- needs that fall
 
-pub lowered : (w w' : Indexed Registration) (s : List (Option TableState)) → ((i : Id) → need w' i ≤ need w i) → MeetsNeeds (need w) s → MeetsNeeds (need w') s
+pub lowered : (w w' : Indexed Registration) (s : List (Option TableState)) → ((i : Id) → need w' i ≤ need w i) → MeetsNeeds (need w) s
+    → MeetsNeeds (need w') s
 lowered w w' s less covers = record {
   each = λ n i k e.
       let was = covers.each n i k e in

@@ -1,12 +1,15 @@
 -- Tables in slots, each found by its type and by the patterns that match its ids.
-use Rattle.std.specs.Prelude.{◌≡◌, ◌≢◌, ℕ, ◌≤◌, Bool, MatchBool, false, IsTrue, ◌&&◌, nat_lt, nat_eq, length, map, List, ◌∷◌, slice_get}
-use Rattle.std.specs.Prelude.{Option, None, Some, option_map, is_some, Result, MatchResult}
+use Rattle.std.specs.Prelude.{◌≡◌, ◌≢◌, ℕ, ◌≤◌, Bool, MatchBool, false, IsTrue, ◌&&◌, nat_lt, nat_eq, length, map, List}
+use Rattle.std.specs.Prelude.{◌∷◌, slice_get}
+use Rattle.std.specs.Prelude.{Option, None, Some, option_map, is_some, Result, IfOk, MatchResult, OnOk}
 use Rattle.std.specs.HashMap.{HashMap}
 use Rattle.std.specs.List.{list_any, IsDistinct, flat_map}
 use Rattle.eco_ids.specs.declared.id.Id.{Id}
 use Rattle.eco_ids.specs.declared.pattern.Pattern.{Pattern}
 use Rattle.eco_ids.specs.Matching.{pattern_matches}
 use Rattle.eco_ids.specs.declared.entity.Entity.{Entity}
+use Rattle.eco_ids.specs.Indices.{Indexed}
+use Rattle.eco_entities.specs.Registration.{Registration}
 use Rattle.eco_tables.specs.Table.{TableState, retyped_row, TableRow, entities_of}
 use Rattle.eco_tables.specs.Tables.{slot_of, table_in, rowless_type}
 use Rattle.eco_index.specs.Edges.{IsGraph}
@@ -14,7 +17,7 @@ use Rattle.eco_index.specs.TypeMap.{IsTypeMap}
 use Rattle.eco_index.specs.IdIndex.{Lists, any_matches}
 use Rattle.eco_caches.specs.Caching.{AreExact}
 use Rattle.eco_caches.specs.declared.cache.Cache.{Cache}
-use Rattle.eco_archetypes.specs.Widths.{AreAgreed}
+use Rattle.eco_archetypes.specs.Widths.{AreAgreed, StillCover}
 
 -- the type of the table in a slot, if there is one
 abbrev pub type_at : List (Option TableState) → ℕ → Option (List Id)
@@ -84,6 +87,25 @@ RowlessBut old new r = (slots : List ℕ) → RowlessIn old slots →
 abbrev pub KeepsRoom : List (Option TableState) → List (Option TableState) → Type 0
 KeepsRoom old new = (n : ℕ) → (table_in old n).room ≤ (table_in new n).room
 
+-- the row of the table in a slot, if it is there
+abbrev pub row_at : List (Option TableState) → ℕ → ℕ → Option TableRow
+row_at slots n row = slice_get (table_in slots n).rows row
+
+-- each row is what and where it was
+abbrev pub SameRows : List (Option TableState) → List (Option TableState) → Type 0
+SameRows old new = (n row : ℕ) → row_at new n row ≡ row_at old n row
+
+-- the table of a type was found, or was made without rows, and has room for so many more; no row changed, and no table went
+pub record FindsRoom {E : Type 0} (w : Indexed Registration) (old new : List (Option TableState)) (ids : List Id) (more : ℕ) (r : Result ℕ E)
+    : Type 0 where
+  pub typed : IfOk r (λ n. type_at new n ≡ Some ids)
+  pub room : IfOk r (λ n. more ≤ (table_in new n).room)
+  pub kept : OnOk r (KeepsRoom old new)
+  pub rowless : RowlessBut old new r
+  pub rows : SameRows old new
+  pub types : KeepsTypes old new
+  pub widths : StillCover w old new
+
 -- the table has rows, and its type passes the test
 abbrev pub is_found_by : (List Id → Bool) → Option TableState → Bool
 is_found_by test None = false
@@ -106,14 +128,6 @@ pub record IsAllFound (test : List Id → Bool) (slots : List (Option TableState
 -- the table in the slot has rows, and its type passes the test
 abbrev pub is_found_in : (List Id → Bool) → List (Option TableState) → ℕ → Bool
 is_found_in test slots n = is_found_by test (slot_of slots n)
-
--- the row of the table in a slot, if it is there
-abbrev pub row_at : List (Option TableState) → ℕ → ℕ → Option TableRow
-row_at slots n row = slice_get (table_in slots n).rows row
-
--- each row is what and where it was
-abbrev pub SameRows : List (Option TableState) → List (Option TableState) → Type 0
-SameRows old new = (n row : ℕ) → row_at new n row ≡ row_at old n row
 
 -- each slot has the type that it had, or none as before
 abbrev pub SameTypes : List (Option TableState) → List (Option TableState) → Type 0

@@ -1,8 +1,7 @@
 //! The tables of a store, one for each type, found by type and by the patterns that match its ids.
-ghost use Rattle.std.specs.Prelude.{◌≡◌, ◌≢◌, ◌↔◌, ◌&&◌, nat_lt, nat_eq, filter, List, ℕ, ◌<◌, ◌≤◌, ◌∷◌, [], length};
-ghost use Rattle.std.specs.Prelude.{◌++◌};
+ghost use Rattle.std.specs.Prelude.{◌≡◌, ◌≢◌, ◌↔◌, List, ℕ, ◌<◌, ◌≤◌, ◌∷◌, length};
 ghost use Rattle.std.specs.Prelude.{slice_get, Some, None, IsSome, IsTrue, IfOk, IfSome, IfNone, OnOk, OnErr, OnSome, is_some};
-ghost use Rattle.std.specs.List.{All, list_any, IsDistinct};
+ghost use Rattle.std.specs.List.{All};
 ghost use Rattle.std.specs.FinMap.Entries.{find};
 ghost use Rattle.std.specs.HashMap.{IsUnchanged, spare};
 ghost use Rattle.eco_ids.specs.declared.id.Id.{Id as Ids};
@@ -15,7 +14,7 @@ ghost use Rattle.eco_caches.specs.Caching.{HaveRoom, StayExact};
 ghost use Rattle.eco_caches.specs.Contents.{cache_list};
 ghost use Rattle.eco_index.specs.Contents.{lists_in, slots_by_type};
 ghost use Rattle.eco_index.specs.TypeMap.{same_ids};
-ghost use Rattle.eco_archetypes.specs.Archetypes.{type_at, IsIdIndex, SameSlots, KeepsTypes, KeepsRoom, RowlessIn, RowlessBut, SameRows};
+ghost use Rattle.eco_archetypes.specs.Archetypes.{type_at, IsIdIndex, SameSlots, RowlessIn, SameRows, FindsRoom};
 ghost use Rattle.eco_archetypes.specs.Widths.{AreWidths, FitsIn, KeepsWidths, MeetsNeeds, StillCover};
 
 use eco_caches::Caches;
@@ -170,13 +169,7 @@ impl Archetypes {
         type_list: &TypeList,
         more: usize,
     ) -> Result<TableSlot, AllocError>
-        ensures typed { IfOk result (λ n. type_at self.new n ≡ Some type_list.now) }
-        ensures room { IfOk result (λ n. more ≤ (table_in self.new n).room) }
-        ensures kept { OnOk result (KeepsRoom self.old self.new) }
-        ensures rowless { RowlessBut self.old self.new result }
-        ensures rows { SameRows self.old self.new }
-        ensures types { KeepsTypes self.old self.new }
-        ensures widths { StillCover entities.now self.old self.new }
+        ensures { FindsRoom entities.now self.old self.new type_list.now more result }
     {
         if let Some(slot) = self.find(type_list) {
             self.reserve_rows(slot, more)?;
@@ -196,13 +189,7 @@ impl Archetypes {
         more: usize,
     ) -> Result<TableSlot, AllocError>
         requires { (n : ℕ) → type_at self.old n ≢ Some type_list }
-        ensures typed { IfOk result (λ n. type_at self.new n ≡ Some type_list) }
-        ensures room { IfOk result (λ n. more ≤ (table_in self.new n).room) }
-        ensures kept { OnOk result (KeepsRoom self.old self.new) }
-        ensures rowless { RowlessBut self.old self.new result }
-        ensures rows { SameRows self.old self.new }
-        ensures types { KeepsTypes self.old self.new }
-        ensures widths { StillCover entities.now self.old self.new }
+        ensures { FindsRoom entities.now self.old self.new type_list more result }
     {
         let slot = self.make(entities, type_list)?;
         match self.reserve_rows(slot, more) {

@@ -70,7 +70,8 @@ got_pushed (y ∷ xs) x zero c at = inl at
 got_pushed (y ∷ xs) x (suc k) c at = got_pushed xs x k c at
 
 -- the same query, slots and choices
-pub exact_as : (types : ℕ → Option (List Id)) (x y : Cache) → y.query ≡ x.query → y.slots.keys ≡ x.slots.keys → y.only ≡ x.only → IsExact types x
+pub exact_as : (types : ℕ → Option (List Id)) (x y : Cache) → y.query ≡ x.query → y.slots.keys ≡ x.slots.keys → y.only ≡ x.only
+    → IsExact types x
     → IsExact types y
 exact_as types x y query keys only exact = record {
   those = λ n. ap (list_any (nat_eq n)) keys ∙ exact.those n ∙ ap (fulfils (types n)) (sym query);
@@ -78,7 +79,8 @@ exact_as types x y query keys only exact = record {
 }
 
 -- the same types, and the same caches
-pub exact_types : (types types' : ℕ → Option (List Id)) (cs : List Cache) → ((n : ℕ) → types' n ≡ types n) → AreExact types cs → AreExact types' cs
+pub exact_types : (types types' : ℕ → Option (List Id)) (cs : List Cache) → ((n : ℕ) → types' n ≡ types n) → AreExact types cs
+    → AreExact types' cs
 exact_types types types' cs same was k c at = record {
   those = λ n. (was k c at).those n ∙ ap (λ o. fulfils o c.query) (sym (same n));
   kept = by c.only (was k c at).kept;
@@ -208,14 +210,16 @@ kept_of cs k x q slots (Ok (Some d)) at query kept = λ types was. subst (λ p. 
 
 module _ (old items : List Cache) (i : ℕ) where
   -- one cache more has its room
-  pub stay_more : (x y : Cache) → slice_get items i ≡ Some x → y.query ≡ x.query → y.slots.keys ≡ x.slots.keys → y.only ≡ x.only → StayExact old items
+  pub stay_more : (x y : Cache) → slice_get items i ≡ Some x → y.query ≡ x.query → y.slots.keys ≡ x.slots.keys → y.only ≡ x.only
+      → StayExact old items
       → StayExact old (slice_set items i y)
   stay_more x y at query keys only stay types was k c got = elim (got_set items i k y c got) [
     | inl here ↦ subst (IsExact types) here.1 (exact_as types x y query keys only (stay types was i x at))
     | inr other ↦ stay types was k c other.1
   ]
 
-  pub room_more : (y : Cache) → 0 < spare y.slots → ((k : ℕ) (c : Cache) → slice_get items k ≡ Some c → k < i → 0 < spare c.slots) → (k : ℕ) (c : Cache)
+  pub room_more : (y : Cache) → 0 < spare y.slots → ((k : ℕ) (c : Cache) → slice_get items k ≡ Some c → k < i → 0 < spare c.slots)
+      → (k : ℕ) (c : Cache)
       → slice_get (slice_set items i y) k ≡ Some c → k < i + 1 → 0 < spare c.slots
   room_more y room rooms k c got low = elim (got_set items i k y c got) [
     | inl here ↦ subst (λ (d : Cache). 0 < spare d.slots) here.1 room
@@ -255,11 +259,13 @@ states_more old items i x y within is query keys only same =
     ∙ ap cache_states (ap (λ c. take i old ++ c ∷ []) is ∙ sym (take_more old i x within))
 
 -- what all of them keep is copied
-pub states_all : (old items : List Cache) (i : ℕ) → length old ≤ i → cache_states items ≡ cache_states (take i old) → cache_states items ≡ cache_states old
+pub states_all : (old items : List Cache) (i : ℕ) → length old ≤ i → cache_states items ≡ cache_states (take i old)
+    → cache_states items ≡ cache_states old
 states_all old items i most same = same ∙ ap cache_states (take_all i old most)
 
 -- one of the caches changed, and not its query
-pub queries_kept : (items : List Cache) (i : ℕ) (y d : Cache) → y.query ≡ (get_or items i d).query → kept_queries (slice_set items i y) ≡ kept_queries items
+pub queries_kept : (items : List Cache) (i : ℕ) (y d : Cache) → y.query ≡ (get_or items i d).query
+    → kept_queries (slice_set items i y) ≡ kept_queries items
 queries_kept items i y d same = map-set_same (λ (c : Cache). c.query) items i y d same
 
 -- what was written back

@@ -140,7 +140,8 @@ module _ (types types' : ℕ → Option (List Id)) (n : ℕ) (o : Option (List I
       }
 
   -- a slot goes
-  pub kept_lost : (slots left : List ℕ) (c d : ChoicesState) (place first : ℕ) → left ≡ swap_remove slots place first → list_any (nat_eq n) left ≡ false
+  pub kept_lost : (slots left : List ℕ) (c d : ChoicesState) (place first : ℕ) → left ≡ swap_remove slots place first
+      → list_any (nat_eq n) left ≡ false
       → AreKept types q slots c → LosesOnly c d place → AreKept types' q left d
   kept_lost slots left c d place first is none kept loses =
       let long : length c.all ≡ length (map on slots) = many slots c kept ∙ sym (length-map slots on) in
@@ -170,7 +171,8 @@ those_told types types' n o q b old new change is turns those m = turns m ∙ by
 
 -- the choices with that of a slot that came in or was there
 pub kept_told : (types types' : ℕ → Option (List Id)) (n : ℕ) (o : Option (List Id)) (q : List QuerySlot) (keys keys' : List ℕ) (place : ℕ)
-    (is_new : Bool) (c : ChoicesState) (r : Option ChoicesState) → ChangesType types types' n o → IsDistinct nat_eq keys' → keys' ≡ insert_key nat_eq keys n
+    (is_new : Bool) (c : ChoicesState) (r : Option ChoicesState) → ChangesType types types' n o → IsDistinct nat_eq keys'
+    → keys' ≡ insert_key nat_eq keys n
     → is_new ≡ not (list_any (nat_eq n) keys) → place ≡ position_or_len (nat_eq n) keys → AreKept types q keys c
     → IfSome r (λ d. KeepsOnly c d (choices_on (asked q) o) place is_new) → IfSome r (AreKept types' q keys')
 kept_told types types' n o q keys keys' place is_new c None change once is new at kept keeps = keeps
@@ -255,7 +257,8 @@ kept_still types types' n o q keys keys' (Some c) change at is none kept =
     kept_apart types types' n o q change keys' c none (subst (λ ns. AreKept types q ns c) (sym stays) kept)
 
 -- one more type has one choice
-pub only_more : (types : ℕ → Option (List Id)) (terms : List QueryTerm) (slots : List ℕ) (i d : ℕ) (all cs new : List (List (Option Id))) → i < length slots
+pub only_more : (types : ℕ → Option (List Id)) (terms : List QueryTerm) (slots : List ℕ) (i d : ℕ) (all cs new : List (List (Option Id)))
+    → i < length slots
     → AreOnly types terms (take i slots) all → choices_on terms (types (get_or slots i d)) ≡ cs → length cs ≡ 1 → new ≡ all ++ cs
     → AreOnly types terms (take (i + 1) slots) new
 only_more types terms slots i d all [] new within only are one is = absurd (omega (arith, one))
@@ -281,7 +284,8 @@ one_item (x ∷ y ∷ xs) one = absurd (omega (arith, one))
 
 -- the only choice was put behind the others
 pub new_kept : (old new : ChoicesState) (terms : List Slot) (q : List QuerySlot) (ids : List Id) → map slot_view terms ≡ q
-    → length (choices ids (asks terms)) ≡ 1 → new ≡ record old { all = old.all ++ choices ids (asks terms) } → KeepsNew old new (choices ids (asked q))
+    → length (choices ids (asks terms)) ≡ 1 → new ≡ record old { all = old.all ++ choices ids (asks terms) }
+    → KeepsNew old new (choices ids (asked q))
 new_kept old new terms q ids is one pushed =
     let own = one_item (choices ids (asks terms)) one in
     record {
@@ -293,7 +297,8 @@ new_kept old new terms q ids is one pushed =
 
 -- all slots have one choice
 pub all_kept : (types : ℕ → Option (List Id)) (terms : List Slot) (q : List QuerySlot) (slots : List ℕ) (i : ℕ) (c : ChoicesState)
-    → map slot_view terms ≡ q → length slots ≤ i → c.width ≡ length terms → AreOnly types (asks terms) (take i slots) c.all → AreKept types q slots c
+    → map slot_view terms ≡ q → length slots ≤ i → c.width ≡ length terms → AreOnly types (asks terms) (take i slots) c.all
+    → AreKept types q slots c
 all_kept types terms q slots i c is most wide made = record {
   wide = wide ∙ sym (length-map terms slot_view) ∙ ap length is;
   only = subst (λ ts. AreOnly types ts slots c.all) (asks_asked terms q is) (subst (λ ns. AreOnly types (asks terms) ns c.all) (take_all i slots most) made);

@@ -1,5 +1,6 @@
 -- Queries with the slots of the tables whose types fulfil them.
-use Rattle.std.specs.Prelude.{◌≡◌, ◌≢◌, ℕ, ◌<◌, Bool, MatchBool, false, List, [], ◌∷◌, ◌++◌, length, map, slice_get, Option, None, Some, IfSome, is_some, nat_eq}
+use Rattle.std.specs.Prelude.{◌≡◌, ◌≢◌, ℕ, ◌<◌, Bool, MatchBool, false, List, [], ◌∷◌, ◌++◌, length, map, slice_get}
+use Rattle.std.specs.Prelude.{Option, None, Some, IfSome, is_some, nat_eq}
 use Rattle.std.specs.HashSet.{spare}
 use Rattle.std.specs.List.{list_any, swap_remove}
 use Rattle.eco_ids.specs.declared.id.Id.{Id}

@@ -27,7 +27,7 @@ pub use Rattle.eco_cleanup.specs.declared.objection.Objection.{Objection}
 pub use Rattle.eco_ids.proofs.Ascending.{both, first, first_T, second, second_T}
 pub use Rattle.eco_ids.proofs.Entries.{apart, sorted_is}
 pub use Rattle.eco_ids.proofs.Exact.{keys, keys_find}
-pub use Rattle.eco_ids.proofs.Facts.{any_is, id_eq_is, id_eq_itself, not_true, or_left, or_parts, or_right, to_T}
+pub use Rattle.eco_ids.proofs.Facts.{any_is, id_eq_is, id_eq_itself, not_true, or_left, or_parts, or_right, same_tests, to_T}
 pub use Rattle.eco_ids.proofs.Keeps.{entry_of, has_in, some_of}
 pub use Rattle.eco_ids.proofs.Losses.{keeps_all}
 pub use Rattle.eco_ids.proofs.Overlaps.{entity_eq_is, entity_eq_itself}

@@ -1,11 +1,11 @@
 -- Who dies by the nodes that the search finds is who is doomed.
 use Rattle.eco_cleanup.proofs.Common.{◌≡◌, ◌≢◌, ℕ, Bool, false, ◌↔◌, ◌||◌, inl, inr, List, [], ◌∷◌, map, Option, Some, refl, sym}
-use Rattle.eco_cleanup.proofs.Common.{ap, ◌∙◌, subst, true≢false, IsTrue, or-false, false_from_ne_true, list_any-append, list_any, Entity, DELETE}
-use Rattle.eco_cleanup.proofs.Common.{Doomed, HoldsOn, Indexed, Least, root, next, entity_cmp, entity_eq, has_item, names_entity, Record, has, both, second}
-use Rattle.eco_cleanup.proofs.Common.{any_is, or_left, or_parts, or_right, entity_eq_is, entity_eq_itself, TableRow, TableState, entities_of, slot_of, table_in}
-use Rattle.eco_cleanup.proofs.Common.{type_names, row_at, IsShown, AreStarts, IsSearch, falls, is_falling, is_naming, is_one_of, is_root, leads, node_same}
-use Rattle.eco_cleanup.proofs.Common.{taken_among, taken_by, touches, names_on, world_of, Node, Root, Falling, Named}
-use Rattle.eco_cleanup.proofs.Noted.{node_itself, same_test}
+use Rattle.eco_cleanup.proofs.Common.{same_tests, ap, ◌∙◌, subst, true≢false, IsTrue, or-false, false_from_ne_true, list_any-append, list_any, Entity}
+use Rattle.eco_cleanup.proofs.Common.{DELETE, Doomed, HoldsOn, Indexed, Least, root, next, entity_cmp, entity_eq, has_item, names_entity, Record, has, both}
+use Rattle.eco_cleanup.proofs.Common.{second, any_is, or_left, or_parts, or_right, entity_eq_is, entity_eq_itself, TableRow, TableState, entities_of, slot_of}
+use Rattle.eco_cleanup.proofs.Common.{table_in, type_names, row_at, IsShown, AreStarts, IsSearch, falls, is_falling, is_naming, is_one_of, is_root, leads}
+use Rattle.eco_cleanup.proofs.Common.{node_same, taken_among, taken_by, touches, names_on, world_of, Node, Root, Falling, Named}
+use Rattle.eco_cleanup.proofs.Noted.{node_itself}
 use Rattle.eco_cleanup.proofs.Roles.{names_on_exact, names_on_names}
 use Rattle.eco_cleanup.proofs.Standing.{any_id, found_at, has_at, row_of, some_id, stands_among, stands_with}
 use Rattle.eco_cleanup.specs.contracts.node.NodePartialEq.TheImpl as node_impl
@@ -30,7 +30,8 @@ module _ (slots : List (Option TableState)) where
       list_any-append (λ y. entity_eq y e) (taken_by slots a) (taken_among slots nodes)
       ∙ ap (λ t. has_item entity_cmp (taken_by slots a) e || t) (taken_any nodes e)
 
-  pub by_one : (nodes : List Node) (e : Entity) (a : Node) → IsTrue (is_one_of nodes a) → Takes a e → IsTrue (has_item entity_cmp (taken_among slots nodes) e)
+  pub by_one : (nodes : List Node) (e : Entity) (a : Node) → IsTrue (is_one_of nodes a) → Takes a e
+      → IsTrue (has_item entity_cmp (taken_among slots nodes) e)
   by_one nodes e a there takes =
       let one = any_is ((node_impl.eq-value).it a) nodes there in
       taken_any nodes e
@@ -46,14 +47,13 @@ module _ (slots : List (Option TableState)) where
   pub dies_there : (nodes : List Node) (e : Entity) (n : ℕ) → (row : ℕ) × (r : TableRow) × (row_at slots n row ≡ Some r) × (r.entity ≡ e)
       → ((m row : ℕ) (r : TableRow) → row_at slots m row ≡ Some r → r.entity ≡ e → m ≡ n)
       → (is_root nodes e || is_falling nodes n) ≡ has_item entity_cmp (taken_among slots nodes) e
-  dies_there nodes e n row only = same_test _ _ (
-    λ h. elim (or_parts (is_root nodes e) (is_falling nodes n) h) as (λ _. IsTrue (has_item entity_cmp (taken_among slots nodes) e)) [
-      | inl own ↦ by_one nodes e (Root e) own (one_itself e)
-      | inr falls ↦ by_one nodes e (Falling n) falls
-          (subst (λ x. IsTrue (has_item entity_cmp (entities_of (table_in slots n).rows) x)) row.3 (stands_among (table_in slots n).rows row.0 row.1 row.2))
-    ],
-    λ h. let one = by_which nodes e h in by one.0 one.1 one.2,
-  )
+  dies_there nodes e n row only = same_tests _ _
+      (λ h. elim (or_parts (is_root nodes e) (is_falling nodes n) h) as (λ _. IsTrue (has_item entity_cmp (taken_among slots nodes) e)) [
+        | inl own ↦ by_one nodes e (Root e) own (one_itself e)
+        | inr falls ↦ by_one nodes e (Falling n) falls
+            (subst (λ x. IsTrue (has_item entity_cmp (entities_of (table_in slots n).rows) x)) row.3
+            (stands_among (table_in slots n).rows row.0 row.1 row.2))
+      ]) (λ h. let one = by_which nodes e h in by one.0 one.1 one.2)
     where
       by : (a : Node) → IsTrue (is_one_of nodes a) → Takes a e → IsTrue (is_root nodes e || is_falling nodes n)
       by (Root x) there takes = or_left (is_root nodes e) (is_falling nodes n) (subst (λ y. IsTrue (is_root nodes y)) (one_is x e takes) there)
@@ -66,7 +66,7 @@ module _ (slots : List (Option TableState)) where
   pub dies_nowhere : (nodes : List Node) (e : Entity) → ((m row : ℕ) (r : TableRow) → row_at slots m row ≡ Some r → r.entity ≢ e)
       → is_root nodes e ≡ has_item entity_cmp (taken_among slots nodes) e
   dies_nowhere nodes e nowhere =
-      same_test _ _ (λ own. by_one nodes e (Root e) own (one_itself e), λ h. let one = by_which nodes e h in by one.0 one.1 one.2)
+      same_tests _ _ (λ own. by_one nodes e (Root e) own (one_itself e)) (λ h. let one = by_which nodes e h in by one.0 one.1 one.2)
     where
       by : (a : Node) → IsTrue (is_one_of nodes a) → Takes a e → IsTrue (is_root nodes e)
       by (Root x) there takes = subst (λ y. IsTrue (is_root nodes y)) (one_is x e takes) there
@@ -111,7 +111,8 @@ module _ (v : Indexed Record) (slots : List (Option TableState)) (shown : IsShow
   begins (Named n) h = tt
 
   -- who stands in a table that falls holds a member under the policy Delete
-  falls_with : (n : ℕ) (e m : Entity) → Doomed (world_of v) IsRoot m → IsTrue (falls (world_of v) slots m n) → Standing n e → Doomed (world_of v) IsRoot e
+  falls_with : (n : ℕ) (e m : Entity) → Doomed (world_of v) IsRoot m → IsTrue (falls (world_of v) slots m n) → Standing n e
+      → Doomed (world_of v) IsRoot e
   falls_with n e m doomed falling standing =
       let row = row_of (table_in slots n).rows e standing in
       let id = some_id (names_on (world_of v) DELETE m) (table_in slots n).ids falling in
@@ -143,7 +144,8 @@ module _ (v : Indexed Record) (slots : List (Option TableState)) (shown : IsShow
   taken_doomed (Named n) meant e takes = absurd (true≢false (sym takes))
 
   -- what one who dies by a node touches follows
-  pub touched_next : (a : Node) (m : Entity) (b : Node) → Takes slots a m → IsTrue (touches (world_of v) slots m b) → IsTrue (leads (world_of v) slots a b)
+  pub touched_next : (a : Node) (m : Entity) (b : Node) → Takes slots a m → IsTrue (touches (world_of v) slots m b)
+      → IsTrue (leads (world_of v) slots a b)
   touched_next (Root x) m b takes h = subst (λ y. IsTrue (touches (world_of v) slots y b)) (sym (one_is x m takes)) h
   touched_next (Falling k) m b takes h = any_entity (λ e. touches (world_of v) slots e b) (entities_of (table_in slots k).rows) m takes h
   touched_next (Named k) m b takes h = takes

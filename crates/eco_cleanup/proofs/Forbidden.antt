@@ -1,14 +1,13 @@
 -- An objection that is found is one that the definitions know, and the least.
 use Rattle.eco_cleanup.proofs.Common.{arith, ◌≡◌, ℕ, Bool, true, false, not, ◌&&◌, List, Option, Some, None, refl, sym, ap, ◌∙◌, subst}
-use Rattle.eco_cleanup.proofs.Common.{true≢false, IsTrue, Ordering, Equal, tied_itself, list_any, is_le, ordering_then, Entity, PANIC, Forbids, IsDoomed}
-use Rattle.eco_cleanup.proofs.Common.{Indexed, entity_cmp, has_item, names_entity, Record, has, both, first, second, any_is, not_true, TableState, entities_of}
-use Rattle.eco_cleanup.proofs.Common.{slot_of, table_in, type_names, IsShown, AreStarts, IsSearch, falls, is_falling, is_naming, is_one_of, node_same}
-use Rattle.eco_cleanup.proofs.Common.{taken_among, JudgesDelete, first_objection, names_on, world_of, Node, Root, Falling, Named, Objection}
+use Rattle.eco_cleanup.proofs.Common.{same_tests, true≢false, IsTrue, Ordering, Equal, tied_itself, list_any, is_le, ordering_then, Entity, PANIC, Forbids}
+use Rattle.eco_cleanup.proofs.Common.{IsDoomed, Indexed, entity_cmp, has_item, names_entity, Record, has, both, first, second, any_is, not_true, TableState}
+use Rattle.eco_cleanup.proofs.Common.{entities_of, slot_of, table_in, type_names, IsShown, AreStarts, IsSearch, falls, is_falling, is_naming, is_one_of}
+use Rattle.eco_cleanup.proofs.Common.{node_same, taken_among, JudgesDelete, first_objection, names_on, world_of, Node, Root, Falling, Named, Objection}
 use Rattle.eco_ids.proofs.IdOrder.{entity_cmp_total}
 use Rattle.eco_ids.proofs.LivingLists.{has_alive}
 use Rattle.eco_cleanup.proofs.Deaths.{doomed_exactly, spare, touched_there}
 use Rattle.eco_cleanup.proofs.Firsts.{IsFirst}
-use Rattle.eco_cleanup.proofs.Noted.{same_test}
 use Rattle.eco_cleanup.proofs.Objections.{objection_cmp_total, objection_first, objects, objects_at}
 use Rattle.eco_cleanup.proofs.Roles.{names_on_exact, names_on_names}
 use Rattle.eco_cleanup.proofs.Standing.{any_id, found_at, has_at, row_of, some_id, stands_among, stands_with}
@@ -61,7 +60,8 @@ module _ (v : Indexed Record) (slots : List (Option TableState)) (shown : IsShow
   -- ---- what forbids, objects
 
   -- a table that names a member and stays is among those found
-  pub named_there : (m : Entity) (n : ℕ) → IsTrue (has_item entity_cmp (taken_among slots keys) m) → IsTrue (is_naming slots m n) → is_falling keys n ≡ false
+  pub named_there : (m : Entity) (n : ℕ) → IsTrue (has_item entity_cmp (taken_among slots keys) m) → IsTrue (is_naming slots m n)
+      → is_falling keys n ≡ false
       → (b : Bool) → falls (world_of v) slots m n ≡ b → IsTrue (is_one_of keys (Named n))
   named_there m n dies found spared true falling =
       absurd (true≢false (sym (touched_there v slots shown starts keys begin exact m (Falling n) dies
@@ -121,5 +121,5 @@ judged_exactly v slots shown starts keys begin exact o is members list =
     same : (e : Entity) → has_item entity_cmp members e ≡ has_item entity_cmp (taken_among slots keys) e
     same e =
         let found = doomed_exactly v slots shown starts keys begin exact e in
-        same_test (has_item entity_cmp members e) (has_item entity_cmp (taken_among slots keys) e)
-        (λ h. found.1 ((list.exact e).0 h), λ h. (list.exact e).1 (found.0 h))
+        same_tests (has_item entity_cmp members e) (has_item entity_cmp (taken_among slots keys) e)
+        (λ h. found.1 ((list.exact e).0 h)) (λ h. (list.exact e).1 (found.0 h))

@@ -3,7 +3,7 @@ use Rattle.eco_cleanup.proofs.Common.{◌≡◌, ℕ, zero, suc, ◌+◌, ◌<�
 use Rattle.eco_cleanup.proofs.Common.{◌||◌, ◌↔◌, ◌⊎◌, inl, inr, List, [], ◌∷◌, ◌++◌, map, filter, flat_map, Option, Some, None}
 use Rattle.eco_cleanup.proofs.Common.{unwrap_or, option_map, is_some, refl, sym, ap, ◌∙◌, subst, true≢false, IsTrue, arith, and-false, and-true}
 use Rattle.eco_cleanup.proofs.Common.{or-false, or_assoc, Decides-eqb, list_any-append, list_any, Entity, Id, Is, Any, Pattern, entity_eq, names_entity}
-use Rattle.eco_cleanup.proofs.Common.{WorldState, first, any_is, or_parts, or_right, entity_eq_is, entity_eq_itself, TableState, entities_of, no_table, slot_of}
+use Rattle.eco_cleanup.proofs.Common.{WorldState, first, any_is, or_parts, or_right, entity_eq_itself, TableState, entities_of, no_table, slot_of}
 use Rattle.eco_cleanup.proofs.Common.{table_in, type_names, is_found, is_found_by, type_at, type_matches, has_rows, AddsNodes, AreStarts, all_nodes, falls}
 use Rattle.eco_cleanup.proofs.Common.{is_naming, is_one_of, leads, named_node, nodes_at, nodes_from, touches, touches_by, Node, Root, Falling, Named}
 use Rattle.std.proofs.Math.Seq.{take-suc}
@@ -12,6 +12,7 @@ use Rattle.std.proofs.lemmas.Map.Views.{any-filter_same}
 use Rattle.eco_ids.specs.declared.pattern.Pattern.TheVariants.{One, Two}
 use Rattle.eco_ids.specs.Matching.{pattern_matches}
 use Rattle.eco_ids.specs.OrderLaws.{entity_ties}
+use Rattle.eco_ids.proofs.Facts.{entity_eq_sym}
 use Rattle.eco_ids.specs.declared.id.Id.TheVariants as id
 use Rattle.eco_cleanup.specs.contracts.node.NodePartialEq.TheImpl as node_impl
 
@@ -27,18 +28,9 @@ joined old more b = list_any-append _ old more
 
 -- ---- kinds of nodes
 
--- two tests that hold for the same
-pub same_test : (a b : Bool) → IsTrue a ↔ IsTrue b → a ≡ b
-same_test a b f = grind arith
-
-turned : (a b : Entity) → IsTrue (entity_eq a b) → IsTrue (entity_eq b a)
-turned a b h = subst (λ e. IsTrue (entity_eq e a)) (entity_eq_is a b h) (entity_eq_itself a)
-
-pub entity_eq_turns : (a b : Entity) → entity_eq a b ≡ entity_eq b a
-entity_eq_turns a b = same_test (entity_eq a b) (entity_eq b a) (turned a b, turned b a)
-
 -- nodes of one kind are none of another
-pub no_others : {A : Type 0} (kind : A → Node) (xs : List A) (b : Node) → ((x : A) → same_node b (kind x) ≡ false) → is_one_of (map kind xs) b ≡ false
+pub no_others : {A : Type 0} (kind : A → Node) (xs : List A) (b : Node) → ((x : A) → same_node b (kind x) ≡ false)
+    → is_one_of (map kind xs) b ≡ false
 no_others kind [] b none = refl
 no_others kind (x ∷ xs) b none = ap (λ t. t || is_one_of (map kind xs) b) (none x) ∙ no_others kind xs b none
 
@@ -82,12 +74,12 @@ found_parts p (Some t) = refl
 -- an id names the entity where it is that single, or a pair with that relationship or target
 one_named : (m : Entity) (i : Id)
     → names_entity i m ≡ ((pattern_matches (One m) i || pattern_matches (Two (Is m) Any) i) || pattern_matches (Two Any (Is m)) i)
-one_named m (id.One x) = entity_eq_turns x m ∙ single (entity_eq m x)
+one_named m (id.One x) = entity_eq_sym x m ∙ single (entity_eq m x)
   where
     single : (a : Bool) → a ≡ ((a || false) || false)
     single true = refl
     single false = refl
-one_named m (id.Two r t) = (λ k. entity_eq_turns r m k || entity_eq_turns t m k) ∙ pair (entity_eq m r) (entity_eq m t)
+one_named m (id.Two r t) = (λ k. entity_eq_sym r m k || entity_eq_sym t m k) ∙ pair (entity_eq m r) (entity_eq m t)
   where
     pair : (a b : Bool) → (a || b) ≡ ((a && true) || b)
     pair true b = refl
@@ -185,7 +177,8 @@ module _ (w : WorldState) (slots : List (Option TableState)) (m : Entity) where
   all_three (Falling n) = both_ways n (falls w slots m n)
   all_three (Named n) = both_ways n (not (falls w slots m n))
 
-  pub three_come : (old one two new : List Node) → AddsNodes (touches_by w slots m (One m)) old one → AddsNodes (touches_by w slots m (Two (Is m) Any)) one two
+  pub three_come : (old one two new : List Node) → AddsNodes (touches_by w slots m (One m)) old one
+      → AddsNodes (touches_by w slots m (Two (Is m) Any)) one two
       → AddsNodes (touches_by w slots m (Two Any (Is m))) two new → AddsNodes (touches w slots m) old new
   three_come old one two new single relationship target b =
       target b
@@ -198,7 +191,8 @@ module _ (w : WorldState) (slots : List (Option TableState)) (m : Entity) where
 -- ---- all who stand in a table
 
 -- one more of a list
-pub one_more : {A : Type 0} (test : A → Bool) (xs : List A) (k : ℕ) (d : A) → k < length xs → (old now : Bool) → now ≡ (old || list_any test (take k xs))
+pub one_more : {A : Type 0} (test : A → Bool) (xs : List A) (k : ℕ) (d : A) → k < length xs → (old now : Bool)
+    → now ≡ (old || list_any test (take k xs))
     → (now || test (get_or xs k d)) ≡ (old || list_any test (take (k + 1) xs))
 one_more test xs k d within old now is =
     let next : k + 1 ≡ suc k = omega arith in

@@ -1,11 +1,11 @@
 -- Who is named by one id of one other entity dies alone, and that id goes.
 use Rattle.eco_cleanup.proofs.Common.{◌≡◌, ℕ, ◌+◌, Bool, true, false, true≢false, cond, not, ◌⊎◌, List, [], ◌∷◌, filter, slice_get}
-use Rattle.eco_cleanup.proofs.Common.{slice_set, Option, Some, None, option_map, is_some, unwrap_or, IsTrue, refl, sym, ap, ◌∙◌, subst, inl, inr, arith}
-use Rattle.eco_cleanup.proofs.Common.{is_sorted, or-false, false_from_ne_true, same_Some, Entity, DELETE, PANIC, Id, after_delete, Forbids, HoldsOn, IsDoomed}
-use Rattle.eco_cleanup.proofs.Common.{names_any, Indexed, IndexState, Retired, Free, Living, change_kept, changed, is_alive, map_from, raised, record_of}
-use Rattle.eco_cleanup.proofs.Common.{with_death, root, keeping, left_at, without, entity_cmp, entity_eq, has_item, id_cmp, id_eq, names_entity, with_item}
-use Rattle.eco_cleanup.proofs.Common.{without_item, Record, WorldState, has, zeros, sorted_is, keys_find, id_eq_is, id_eq_itself, or_left, or_right, to_T}
-use Rattle.eco_cleanup.proofs.Common.{entry_of, has_in, some_of, keeps_all, record_ids, with_toggled, with_type, world_of, names_on}
+use Rattle.eco_cleanup.proofs.Common.{same_tests, slice_set, Option, Some, None, option_map, is_some, unwrap_or, IsTrue, refl, sym, ap, ◌∙◌, subst, inl}
+use Rattle.eco_cleanup.proofs.Common.{inr, arith, is_sorted, or-false, false_from_ne_true, same_Some, Entity, DELETE, PANIC, Id, after_delete, Forbids}
+use Rattle.eco_cleanup.proofs.Common.{HoldsOn, IsDoomed, names_any, Indexed, IndexState, Retired, Free, Living, change_kept, changed, is_alive, map_from}
+use Rattle.eco_cleanup.proofs.Common.{raised, record_of, with_death, root, keeping, left_at, without, entity_cmp, entity_eq, has_item, id_cmp, id_eq}
+use Rattle.eco_cleanup.proofs.Common.{names_entity, with_item, without_item, Record, WorldState, has, zeros, sorted_is, keys_find, id_eq_is, id_eq_itself}
+use Rattle.eco_cleanup.proofs.Common.{or_left, or_right, to_T, entry_of, has_in, some_of, keeps_all, record_ids, with_toggled, with_type, world_of, names_on}
 use Rattle.eco_ids.proofs.AtPlaces.{get_left, same_number, same_places}
 use Rattle.eco_ids.proofs.Lists.{slice_get-set_other, slice_get-set_there}
 use Rattle.eco_ids.proofs.Meaning.{least}
@@ -13,10 +13,10 @@ use Rattle.eco_ids.proofs.States.{living_at, record_at, same_parts}
 use Rattle.eco_cleanup.specs.OnlyHolders.{IsOnlyHolder}
 use Rattle.eco_cleanup.specs.declared.only_holder.OnlyHolder.{OnlyHolder}
 use Rattle.eco_cleanup.proofs.Deaths.{one_is, one_itself}
-use Rattle.eco_cleanup.proofs.Noted.{entity_eq_turns, same_test}
 use Rattle.eco_cleanup.proofs.Planned.{named_alike, named_some, some_named}
 use Rattle.eco_cleanup.proofs.Roles.{names_on_exact, names_on_names, tested}
 use Rattle.eco_cleanup.proofs.TakenOut.{retyped_part}
+use Rattle.eco_ids.proofs.Facts.{entity_eq_sym}
 
 -- ---- lists
 
@@ -54,11 +54,9 @@ module _ (v : Indexed Record) (o : OnlyHolder) (only : IsOnlyHolder v o) where
   -- it alone
   pub doomed_one : (members : List Entity) → IsDoomed w (λ x. IsTrue (has_item entity_cmp one x)) members
       → (e : Entity) → has_item entity_cmp one e ≡ has_item entity_cmp members e
-  doomed_one members list e = same_test (has_item entity_cmp one e) (has_item entity_cmp members e) (
-    λ h. (list.exact e).1 (root h),
-    λ h. least (λ y. IsTrue (has_item entity_cmp one y)) (λ y there. there)
-        (λ a b there holds. absurd (true≢false (sym (by_that DELETE a b there holds) ∙ only.stays))) ((list.exact e).0 h),
-  )
+  doomed_one members list e = same_tests (has_item entity_cmp one e) (has_item entity_cmp members e) (λ h. (list.exact e).1 (root h))
+      (λ h. least (λ y. IsTrue (has_item entity_cmp one y)) (λ y there. there)
+      (λ a b there holds. absurd (true≢false (sym (by_that DELETE a b there holds) ∙ only.stays))) ((list.exact e).0 h))
 
   -- and nobody forbids it
   pub none_forbids : (members : List Entity) → IsDoomed w (λ x. IsTrue (has_item entity_cmp one x)) members
@@ -80,20 +78,18 @@ module _ (v : Indexed Record) (o : OnlyHolder) (only : IsOnlyHolder v o) where
   holder_lives = ap is_some itself.1
 
   names_one : (j : Id) → names_any one j ≡ names_entity j o.member
-  names_one j = same_test (names_any one j) (names_entity j o.member) (
-    λ h. let m = named_some one j h in subst (λ x. IsTrue (names_entity j x)) (sym (one_is o.member m.0 m.1)) m.2,
-    λ h. some_named one o.member j (one_itself o.member) h,
-  )
+  names_one j = same_tests (names_any one j) (names_entity j o.member)
+      (λ h. let m = named_some one j h in subst (λ x. IsTrue (names_entity j x)) (sym (one_is o.member m.0 m.1)) m.2)
+      (λ h. some_named one o.member j (one_itself o.member) h)
 
   had : (j : Id) → IsTrue (has_item id_cmp (record_ids itself.0) j) → IsTrue (has w o.holder j)
   had j there = ap (λ x. has_in x j) itself.1 ∙ keys_find itself.0.held j ∙ there
 
   -- exactly that id goes
   goes_there : (j : Id) → IsTrue (has_item id_cmp (record_ids itself.0) j) → not (id_eq j o.id) ≡ not (names_any one j)
-  goes_there j there = ap not (same_test (id_eq j o.id) (names_any one j) (
-    λ h. names_one j ∙ subst (λ i. IsTrue (names_entity i o.member)) (sym (id_eq_is j o.id h)) only.names,
-    λ h. subst (λ i. IsTrue (id_eq j i)) (only.only o.holder j (had j there) (sym (names_one j) ∙ h)).1 (id_eq_itself j),
-  ))
+  goes_there j there = ap not (same_tests (id_eq j o.id) (names_any one j)
+      (λ h. names_one j ∙ subst (λ i. IsTrue (names_entity i o.member)) (sym (id_eq_is j o.id h)) only.names)
+      (λ h. subst (λ i. IsTrue (id_eq j i)) (only.only o.holder j (had j there) (sym (names_one j) ∙ h)).1 (id_eq_itself j)))
 
   has_that : has_item id_cmp (record_ids itself.0) o.id ≡ true
   has_that = sym (keys_find itself.0.held o.id) ∙ sym (ap (λ x. has_in x o.id) itself.1) ∙ only.there
@@ -147,7 +143,8 @@ module _ (v : Indexed Record) (o : OnlyHolder) (only : IsOnlyHolder v o) where
     other_index : o.member.index ≡ o.holder.index → ⊥
     other_index same =
         let states : Living o.holder.generation itself.0 ≡ Living o.member.generation own.0 =
-        same_Some (Living o.holder.generation itself.0) (Living o.member.generation own.0) (sym at_holder ∙ ap (slice_get v.indices) (sym same) ∙ at_member) in
+        same_Some (Living o.holder.generation itself.0) (Living o.member.generation own.0)
+        (sym at_holder ∙ ap (slice_get v.indices) (sym same) ∙ at_member) in
         true≢false (sym (tested o.holder o.member (same_parts o.holder o.member (sym same) (ap generation_of states))) ∙ only.apart)
 
     abbrev inner : List (IndexState Record)
@@ -176,7 +173,7 @@ module _ (v : Indexed Record) (o : OnlyHolder) (only : IsOnlyHolder v o) where
     holder_left : left o.holder.index (Living o.holder.generation itself.0) ≡ Living o.holder.generation (with_toggled o.id itself.0)
     holder_left =
         ap (λ b. cond b (raised o.holder.generation) (Living o.holder.generation (keeping (names_any one) itself.0)))
-        (or-false (entity_eq o.member o.holder) ∙ entity_eq_turns o.member o.holder ∙ only.apart)
+        (or-false (entity_eq o.member o.holder) ∙ entity_eq_sym o.member o.holder ∙ only.apart)
         ∙ ap (Living o.holder.generation) (sym lost)
 
     same_at : (k : ℕ) → (k ≡ o.member.index) ⊎ (k ≡ o.member.index → ⊥) → (k ≡ o.holder.index) ⊎ (k ≡ o.holder.index → ⊥)
@@ -188,7 +185,8 @@ module _ (v : Indexed Record) (o : OnlyHolder) (only : IsOnlyHolder v o) where
     same_at k (inr apart) (inl is) =
         subst (λ j. slice_get outer j ≡ option_map (left j) (slice_get v.indices j)) (sym is)
         (slice_get-set_other inner o.member.index o.holder.index (raised o.member.generation) (λ e. other_index (sym e))
-        ∙ slice_get-set_there v.indices o.holder.index (Living o.holder.generation (with_toggled o.id itself.0)) (Living o.holder.generation itself.0) at_holder
+        ∙ slice_get-set_there v.indices o.holder.index (Living o.holder.generation (with_toggled o.id itself.0))
+        (Living o.holder.generation itself.0) at_holder
         ∙ sym (ap (option_map (left o.holder.index)) at_holder ∙ ap Some holder_left))
     same_at k (inr apart) (inr other) =
         slice_get-set_other inner o.member.index k (raised o.member.generation) apart

@@ -1,17 +1,17 @@
 -- What is found among the nodes is what a delete does.
 use Rattle.eco_cleanup.proofs.Common.{◌≡◌, ℕ, nat_lt, Bool, true, false, cond, not, length, ◌↔◌, ◌||◌, inl, inr, List, [], ◌∷◌}
-use Rattle.eco_cleanup.proofs.Common.{◌++◌, map, flat_map, slice_get, Option, Some, None, unwrap_or, refl, sym, ap, ◌∙◌, subst, true≢false, IsTrue}
-use Rattle.eco_cleanup.proofs.Common.{IsFalse, arith, All, Contains, list_any, map-append, none-some, Entity, Id, One, Two, Doomed, IsDoomed, after_delete}
-use Rattle.eco_cleanup.proofs.Common.{names_any, Indexed, record_of, without, Least, root, next, entity_cmp, entity_eq, has_item, names_entity, Record, first}
-use Rattle.eco_cleanup.proofs.Common.{second, or_left, or_parts, or_right, entity_eq_is, entity_eq_itself, RowsHaveIds, TableState, entities_of, TableRow}
-use Rattle.eco_cleanup.proofs.Common.{no_row, no_table, slot_of, table_in, is_found_by, IsShown, Stands, record_ids, TypeChange, AreStarts, IsSearch, falls}
-use Rattle.eco_cleanup.proofs.Common.{is_falling, is_naming, is_one_of, leads, node_same, taken_among, touches, Ascend, IsDeletePlan, TakesOut, TakesOutOfAll}
-use Rattle.eco_cleanup.proofs.Common.{change_in, changes_at, changes_of, spared, world_of, Node, Root, Falling, Named}
+use Rattle.eco_cleanup.proofs.Common.{same_tests, ◌++◌, map, flat_map, slice_get, Option, Some, None, unwrap_or, refl, sym, ap, ◌∙◌, subst}
+use Rattle.eco_cleanup.proofs.Common.{true≢false, IsTrue, IsFalse, arith, All, Contains, list_any, map-append, none-some, Entity, Id, One, Two, Doomed}
+use Rattle.eco_cleanup.proofs.Common.{IsDoomed, after_delete, names_any, Indexed, record_of, without, Least, root, next, entity_cmp, entity_eq, has_item}
+use Rattle.eco_cleanup.proofs.Common.{names_entity, Record, first, second, or_left, or_parts, or_right, entity_eq_is, entity_eq_itself, RowsHaveIds}
+use Rattle.eco_cleanup.proofs.Common.{TableState, entities_of, TableRow, no_row, no_table, slot_of, table_in, is_found_by, IsShown, Stands, record_ids}
+use Rattle.eco_cleanup.proofs.Common.{TypeChange, AreStarts, IsSearch, falls, is_falling, is_naming, is_one_of, leads, node_same, taken_among, touches, Ascend}
+use Rattle.eco_cleanup.proofs.Common.{IsDeletePlan, TakesOut, TakesOutOfAll, change_in, changes_at, changes_of, spared, world_of, Node, Root, Falling, Named}
 use Rattle.std.proofs.lemmas.List.Elements.{All-nil, All-cons, All-append, Contains-append_left, Contains-append_right}
 use Rattle.eco_index.specs.TypeTests.{type_names as any_names}
 use Rattle.eco_cleanup.proofs.Deaths.{by_one, doomed_exactly, one_itself, some_entity, spare}
 use Rattle.eco_cleanup.proofs.Forbidden.{named_there}
-use Rattle.eco_cleanup.proofs.Noted.{node_itself, same_test}
+use Rattle.eco_cleanup.proofs.Noted.{node_itself}
 use Rattle.eco_cleanup.proofs.Standing.{any_id, found_at, some_id, stands_among}
 use Rattle.eco_cleanup.specs.contracts.node.NodePartialEq.TheImpl as node_impl
 
@@ -43,12 +43,14 @@ named_some es (Two r t) names =
 
 -- ---- the type of a record
 
-pub ids_standing : (o : Option Record) (t : TableState) (row : ℕ) (r : Record) → o ≡ Some r → Stands o t row → RowsHaveIds t → record_ids r ≡ t.ids
+pub ids_standing : (o : Option Record) (t : TableState) (row : ℕ) (r : Record) → o ≡ Some r → Stands o t row → RowsHaveIds t
+    → record_ids r ≡ t.ids
 ids_standing o t row r at stands own =
     let there = subst (λ x. Stands x t row) at stands in
     ap (map (λ p. p.0)) (there.held no_row) ∙ own row no_row there.within
 
-among_change : (dead : List Entity) (o : Option TableState) (k : ℕ) (r : TableRow) (b : Bool) (ids : List Id) → slice_get (unwrap_or o no_table).rows k ≡ Some r
+among_change : (dead : List Entity) (o : Option TableState) (k : ℕ) (r : TableRow) (b : Bool) (ids : List Id)
+    → slice_get (unwrap_or o no_table).rows k ≡ Some r
     → b ≡ false → ids ≡ (unwrap_or o no_table).ids → Contains (map (λ (c : TypeChange). c.from) (cond b [] (change_in dead o))) ids
 among_change dead None k r b ids at is same = absurd (none-some r at)
 among_change dead (Some t) k r true ids at is same = absurd (true≢false is)
@@ -115,7 +117,8 @@ module _ (v : Indexed Record) (slots : List (Option TableState)) (shown : IsShow
       unless true all = All-nil Takes
       unless false all = all
 
-  all_taken : (nodes : List Node) → ((a : Node) → IsTrue (is_one_of nodes a) → IsTrue (is_one_of keys a)) → All Takes (flat_map (changes_at slots keys) nodes)
+  all_taken : (nodes : List Node) → ((a : Node) → IsTrue (is_one_of nodes a) → IsTrue (is_one_of keys a))
+      → All Takes (flat_map (changes_at slots keys) nodes)
   all_taken [] within = All-nil Takes
   all_taken (a ∷ nodes) within =
       All-append Takes (changes_at slots keys a) (flat_map (changes_at slots keys) nodes) (taken_of a (within a (or_left _ _ (node_itself a))))
@@ -140,7 +143,8 @@ module _ (v : Indexed Record) (slots : List (Option TableState)) (shown : IsShow
       froms : List TypeChange → List (List Id)
       froms = map (λ (c : TypeChange). c.from)
 
-  every_type : (e : Entity) (r : Record) → record_of v e ≡ Some r → IsFalse (has_item entity_cmp dying e) → IsTrue (list_any (names_any dying) (record_ids r))
+  every_type : (e : Entity) (r : Record) → record_of v e ≡ Some r → IsFalse (has_item entity_cmp dying e)
+      → IsTrue (list_any (names_any dying) (record_ids r))
       → Contains (map (λ (c : TypeChange). c.from) (changes_of slots keys)) (record_ids r)
   every_type e r at outside some =
       let row = shown.living e r at in
@@ -184,5 +188,5 @@ as_listed v IsRoot dead changes plan members list = λ t. without (world_of v) (
   where
     same : (e : Entity) → has_item entity_cmp dead e ≡ has_item entity_cmp members e
     same e =
-        same_test (has_item entity_cmp dead e) (has_item entity_cmp members e)
-        (λ h. (list.exact e).1 ((plan.doomed e).0 h), λ h. (plan.doomed e).1 ((list.exact e).0 h))
+        same_tests (has_item entity_cmp dead e) (has_item entity_cmp members e)
+        (λ h. (list.exact e).1 ((plan.doomed e).0 h)) (λ h. (plan.doomed e).1 ((list.exact e).0 h))

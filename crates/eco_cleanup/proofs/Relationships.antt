@@ -1,12 +1,12 @@
 -- Whether an id names a member under the policy Delete, asked of the relationships of which holders die with targets.
-use Rattle.eco_cleanup.proofs.Common.{arith, ◌≡◌, ℕ, Bool, true≢false, nat_eq, ◌&&◌, ◌||◌, inl, inr, List, slice_get, Option, Some, None}
+use Rattle.eco_cleanup.proofs.Common.{arith, ◌≡◌, ℕ, Bool, true≢false, nat_eq, ◌&&◌, ◌||◌, inl, inr, List, slice_get, Option, Some}
+use Rattle.eco_cleanup.proofs.Common.{None, same_tests}
 use Rattle.eco_cleanup.proofs.Common.{option_map, unwrap_or, IsTrue, refl, sym, ◌∙◌, subst, list_any, Decides-eqb, none-some, Entity, DELETE, ON_DELETE}
 use Rattle.eco_cleanup.proofs.Common.{ON_DELETE_TARGET, Id, One, Two, Is, Pattern, policy, Indexed, entity_cmp, entity_eq, has_item, id_cmp, Record, WorldState}
 use Rattle.eco_cleanup.proofs.Common.{has, both, first, second, any_is, or_left, or_parts, or_right, entity_eq_is, entity_eq_itself, TableRow, TableState}
 use Rattle.eco_cleanup.proofs.Common.{entities_of, no_table, slot_of, table_in, row_at, type_at, type_matches, IsShown, world_of, is_head, names_on}
 use Rattle.eco_ids.specs.Matching.{pattern_matches}
 use Rattle.eco_cleanup.proofs.Deaths.{any_entity, some_entity}
-use Rattle.eco_cleanup.proofs.Noted.{same_test}
 use Rattle.eco_cleanup.proofs.Standing.{any_id, has_at, row_of, some_id, stands_among, stands_with}
 use Rattle.eco_ids.specs.declared.pattern.Pattern.TheVariants as pattern
 
@@ -90,7 +90,8 @@ module _ (v : Indexed Record) (slots : List (Option TableState)) (shown : IsShow
       let one = some_id (is_head m) ids (second own (list_any (is_head m) ids) h) in
       any_id (names_on w DELETE m) ids one.0 one.1 (head_names w m one.0 one.2 (first own (list_any (is_head m) ids) h))
 
-  by_head : (r : Entity) (i : Id) → IsTrue (has_item id_cmp ids i) → IsTrue (is_head r i) → IsTrue (entity_eq r m && entity_eq (policy w r ON_DELETE) DELETE)
+  by_head : (r : Entity) (i : Id) → IsTrue (has_item id_cmp ids i) → IsTrue (is_head r i)
+      → IsTrue (entity_eq r m && entity_eq (policy w r ON_DELETE) DELETE)
       → IsTrue (own && list_any (is_head m) ids)
   by_head r i there head on =
       let same = entity_eq_is r m (first (entity_eq r m) (entity_eq (policy w r ON_DELETE) DELETE) on) in
@@ -120,10 +121,8 @@ module _ (v : Indexed Record) (slots : List (Option TableState)) (shown : IsShow
       ]
 
   pub deletes_exactly : ((own && list_any (is_head m) ids) || list_any at_slot found) ≡ list_any (names_on w DELETE m) ids
-  deletes_exactly = same_test ((own && list_any (is_head m) ids) || list_any at_slot found) (list_any (names_on w DELETE m) ids) (
-    λ h. elim (or_parts (own && list_any (is_head m) ids) (list_any at_slot found) h) as (λ _. IsTrue (list_any (names_on w DELETE m) ids)) [
-      | inl k ↦ heads_name k
-      | inr k ↦ pairs_name k
-    ],
-    λ h. let one = some_id (names_on w DELETE m) ids h in named_either one.0 one.1 one.2,
-  )
+  deletes_exactly = same_tests ((own && list_any (is_head m) ids) || list_any at_slot found) (list_any (names_on w DELETE m) ids)
+      (λ h. elim (or_parts (own && list_any (is_head m) ids) (list_any at_slot found) h) as (λ _. IsTrue (list_any (names_on w DELETE m) ids)) [
+        | inl k ↦ heads_name k
+        | inr k ↦ pairs_name k
+      ]) (λ h. let one = some_id (names_on w DELETE m) ids h in named_either one.0 one.1 one.2)

@@ -1,12 +1,12 @@
 -- Whole tables as the roots of a delete.
 use Rattle.eco_cleanup.proofs.Common.{◌≡◌, ℕ, Bool, nat_lt, length, List, map, Option, Some, None, unwrap_or, refl, sym, ap, ◌∙◌, subst}
-use Rattle.eco_cleanup.proofs.Common.{true≢false, IsTrue, list_any, Entity, Id, Pattern, Indexed, record_of, entity_cmp, has_item, Record, second}
-use Rattle.eco_cleanup.proofs.Common.{RowsHaveIds, TableState, entities_of, no_table, slot_of, table_in, IsAllFound, is_found_by, entities_with, IsShown}
-use Rattle.eco_cleanup.proofs.Common.{Stands, record_ids, is_one_of, taken_among, Node, Root, Falling, Named}
+use Rattle.eco_cleanup.proofs.Common.{same_tests, true≢false, IsTrue, list_any, Entity, Id, Pattern, Indexed, record_of, entity_cmp, has_item, Record}
+use Rattle.eco_cleanup.proofs.Common.{second, RowsHaveIds, TableState, entities_of, no_table, slot_of, table_in, IsAllFound, is_found_by, entities_with}
+use Rattle.eco_cleanup.proofs.Common.{IsShown, Stands, record_ids, is_one_of, taken_among, Node, Root, Falling, Named}
 use Rattle.eco_ids.specs.Matching.{pattern_matches}
 use Rattle.eco_ids.proofs.Passing.{own_from_passed, passed_from_own}
 use Rattle.eco_cleanup.proofs.Deaths.{Takes, by_one, by_which}
-use Rattle.eco_cleanup.proofs.Noted.{no_others, same_test, tables_are}
+use Rattle.eco_cleanup.proofs.Noted.{no_others, tables_are}
 use Rattle.eco_cleanup.proofs.Planned.{ids_standing}
 use Rattle.eco_cleanup.proofs.Standing.{found_at, row_of, stands_among}
 
@@ -15,7 +15,8 @@ passes_there test None h = absurd (true≢false (sym h))
 passes_there test (Some t) h = second (nat_lt 0 (length t.rows)) (test t.ids) h
 
 -- who stands somewhere lives, under the type of the table
-lives_with : (o : Option Record) (t : TableState) (row : ℕ) → Stands o t row → RowsHaveIds t → (r : Record) × (o ≡ Some r) × (record_ids r ≡ t.ids)
+lives_with : (o : Option Record) (t : TableState) (row : ℕ) → Stands o t row → RowsHaveIds t
+    → (r : Record) × (o ≡ Some r) × (record_ids r ≡ t.ids)
 lives_with None t row stands own = absurd stands
 lives_with (Some r) t row stands own = (r, refl, ids_standing (Some r) t row r refl stands own)
 
@@ -48,5 +49,5 @@ module _ (v : Indexed Record) (slots : List (Option TableState)) (shown : IsShow
   -- who dies by the tables that the pattern finds is who has an id that it matches
   pub tables_taken : (e : Entity) → has_item entity_cmp (taken_among slots (map Falling found)) e ≡ has_item entity_cmp (entities_with v p) e
   tables_taken e =
-      same_test (has_item entity_cmp (taken_among slots (map Falling found)) e) (has_item entity_cmp (entities_with v p) e)
-      (λ h. let one = by_which slots (map Falling found) e h in taken_has e one.0 one.1 one.2, has_taken e)
+      same_tests (has_item entity_cmp (taken_among slots (map Falling found)) e) (has_item entity_cmp (entities_with v p) e)
+      (λ h. let one = by_which slots (map Falling found) e h in taken_has e one.0 one.1 one.2) (has_taken e)

@@ -21,7 +21,8 @@ Held = List (Id × Value)
 -- ---- values under some of their ids
 
 -- what has the old values is the old under its own ids
-pub retyped_part : (test : Id → Bool) (part old : Held) → T (is_sorted id_cmp part) → ((i : Id) (v : Value) → find id_cmp i part ≡ Some v → value_in old i ≡ v)
+pub retyped_part : (test : Id → Bool) (part old : Held) → T (is_sorted id_cmp part)
+    → ((i : Id) (v : Value) → find id_cmp i part ≡ Some v → value_in old i ≡ v)
     → retyped (filter test (keys part)) old ≡ where_key id_cmp test part
 retyped_part test [] old up values = refl
 retyped_part test (p ∷ part) old up values =
@@ -119,7 +120,8 @@ states_same (Living n r ∷ xs) = ap (λ ys. Living n r ∷ ys) (states_same xs)
 -- changes after changes, entity by entity
 changes_are : (v : Indexed Record) (cs : List TypeChange) → after_changes v cs ≡ record v { indices = map (map_state (all_changed cs)) v.indices }
 changes_are v [] = ap (λ xs. record v { indices = xs }) (states_same v.indices)
-changes_are v (c ∷ cs) = changes_are (after_change v c) cs ∙ ap (λ xs. record v { indices = xs }) (states_twice (changed_record c) (all_changed cs) v.indices)
+changes_are v (c ∷ cs) = changes_are (after_change v c) cs
+    ∙ ap (λ xs. record v { indices = xs }) (states_twice (changed_record c) (all_changed cs) v.indices)
 
 module _ (dies : Entity → Bool) (goes : Id → Bool) (f : Record → Record) where
   still_raised : (g : ℕ) → map_state f (raised g) ≡ raised g
@@ -154,7 +156,8 @@ all_left v dies goes cs takes =
     ∙ ap (λ xs. record v { indices = xs })
     (left_alike dies goes (all_changed cs) 0 v.indices (λ j m g r at living. one (record { index = m; generation = g }) r (there j m g r at living)))
   where
-    there : (j m g : ℕ) (r : Record) → m ≡ 0 + j → slice_get v.indices j ≡ Some (Living g r) → record_of v (record { index = m; generation = g }) ≡ Some r
+    there : (j m g : ℕ) (r : Record) → m ≡ 0 + j → slice_get v.indices j ≡ Some (Living g r)
+        → record_of v (record { index = m; generation = g }) ≡ Some r
     there j m g r at living =
         let same : m ≡ j = omega (arith, at) in
         record_at v (record { index = m; generation = g }) r (ap (slice_get v.indices) same ∙ living)

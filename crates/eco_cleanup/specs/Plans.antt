@@ -1,5 +1,6 @@
 -- What a delete does: who dies, and which types change; and how that is found among the nodes.
-use Rattle.std.specs.Prelude.{◌≡◌, Bool, not, ◌↔◌, IsTrue, IsFalse, List, [], ◌∷◌, map, filter, flat_map, Option, None, Some, if◌then◌else◌}
+use Rattle.std.specs.Prelude.{◌≡◌, Bool, not, ◌↔◌, IsTrue, IsFalse, List, [], ◌∷◌, map, filter, flat_map, Option, None, Some}
+use Rattle.std.specs.Prelude.{if◌then◌else◌}
 use Rattle.std.specs.List.{All, Contains, list_any}
 use Rattle.eco_ids.specs.declared.entity.Entity.{Entity}
 use Rattle.eco_ids.specs.declared.id.Id.{Id}

@@ -3,15 +3,10 @@ use Rattle.eco_index.proofs.Common.{◌≡◌, ℕ, zero, suc, ◌<◌, Bool, tr
 use Rattle.eco_index.proofs.Common.{◌∙◌, arith, list_any, Entity, Id, Is, Any, Pattern, entity_eq, names_entity, first, second, any_matches}
 use Rattle.eco_ids.specs.declared.pattern.Pattern.TheVariants.{One, Two}
 use Rattle.eco_ids.specs.Matching.{pattern_matches}
-use Rattle.eco_ids.proofs.Overlaps.{entity_eq_itself, entity_eq_is}
 use Rattle.eco_index.specs.TypeTests.{type_names, AreNeeded, each_alone, group_at, matches_each, type_matches_one, naming}
 use Rattle.eco_index.proofs.Keys.{and_true, or_false}
+use Rattle.eco_ids.proofs.Facts.{entity_eq_sym}
 use Rattle.eco_ids.specs.declared.id.Id.TheVariants as id
-
-pub same_truth : (a b : Bool) → (a ≡ true → b ≡ true) → (b ≡ true → a ≡ true) → a ≡ b
-same_truth true b f g = sym (f refl)
-same_truth false true f g = g refl
-same_truth false false f g = refl
 
 one_pattern : (p : Pattern) (ids : List Id) → type_matches_one (p ∷ []) ids ≡ list_any (pattern_matches p) ids
 one_pattern p ids = or_false (any_matches ids p)
@@ -27,16 +22,10 @@ pub only_group : (test : List Id → Bool) (ps : List Pattern) (k : ℕ) (ids : 
 only_group test ps zero ids is within found = sym (sym (is ids) ∙ found)
 only_group test ps (suc k) ids is within found = absurd (omega (arith, within))
 
-swapped : (a b : Entity) → entity_eq a b ≡ entity_eq b a
-swapped a b = same_truth (entity_eq a b) (entity_eq b a) (turned a b) (turned b a)
-  where
-    turned : (a b : Entity) → entity_eq a b ≡ true → entity_eq b a ≡ true
-    turned a b h = ap (entity_eq b) (entity_eq_is a b h) ∙ entity_eq_itself b
-
 name_matches : (e : Entity) (i : Id)
     → names_entity i e ≡ (pattern_matches (One e) i || (pattern_matches (Two (Is e) Any) i || pattern_matches (Two Any (Is e)) i))
-name_matches e (id.One x) = swapped x e ∙ sym (or_false (entity_eq e x))
-name_matches e (id.Two r t) = (λ k. swapped r e k || swapped t e k) ∙ sym (ap (λ b. b || entity_eq e t) (and_true (entity_eq e r)))
+name_matches e (id.One x) = entity_eq_sym x e ∙ sym (or_false (entity_eq e x))
+name_matches e (id.Two r t) = (λ k. entity_eq_sym r e k || entity_eq_sym t e k) ∙ sym (ap (λ b. b || entity_eq e t) (and_true (entity_eq e r)))
 
 shuffled : (a b c x y z : Bool) → ((a || x) || ((b || y) || ((c || z) || false))) ≡ ((a || (b || c)) || (x || (y || (z || false))))
 shuffled true b c x y z = refl

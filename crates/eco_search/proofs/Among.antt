@@ -1,16 +1,10 @@
 -- Nodes among others.
 use Rattle.eco_search.proofs.Common.{or_left, or_right, IsEquivalence}
 use Rattle.std.proofs.Common.{◌≡◌, ℕ, zero, suc, ◌<◌, length, get_or, arith, Bool, true, false, ◌||◌, ◌⊎◌, inl, inr, List, [], ◌∷◌}
-use Rattle.std.proofs.Common.{◌++◌, refl, sym, ◌∙◌, true≢false, IsTrue}
+use Rattle.std.proofs.Common.{◌++◌, sym, ◌∙◌, true≢false, IsTrue}
 use Rattle.std.proofs.lemmas.List.Folds.{list_any-append}
 use Rattle.eco_ids.proofs.Facts.{or_parts}
 use Rattle.eco_search.specs.Search.{is_among}
-
--- each of two tests holds where the other does
-pub same_truth : (a b : Bool) → (IsTrue a → IsTrue b) → (IsTrue b → IsTrue a) → a ≡ b
-same_truth true b f g = sym (f refl)
-same_truth false true f g = g refl
-same_truth false false f g = refl
 
 module _ {A : Type 0} (eq : A → A → Bool) where
   pub among_append : (xs ys : List A) (x : A) → is_among eq (xs ++ ys) x ≡ (is_among eq xs x || is_among eq ys x)

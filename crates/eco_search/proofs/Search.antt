@@ -8,9 +8,9 @@ use Rattle.std.proofs.lemmas.List.{append-nil, take_more, take-append-le}
 use Rattle.std.proofs.Math.Bool.{or-false, or_assoc}
 use Rattle.indexmap.specs.IndexSet.{insert_all, insert_key}
 use Rattle.eco_ids.specs.Least.{Least, root, next}
-use Rattle.eco_ids.proofs.Facts.{or_parts, or_right}
+use Rattle.eco_ids.proofs.Facts.{or_parts, or_right, same_tests}
 use Rattle.eco_search.specs.Search.{IsTurn, is_among}
-use Rattle.eco_search.proofs.Among.{only, among_get, same_truth, among_append, among_front, among_back, among_cases}
+use Rattle.eco_search.proofs.Among.{only, among_get, among_append, among_front, among_back, among_cases}
 
 module _ {A : Type 0} (eq : A → A → Bool) (laws : IsEquivalence eq) (same : (a b : A) → eq a b ≡ true → a ≡ b) where
   abbrev pub Has : List A → A → Type 0
@@ -38,7 +38,7 @@ module _ {A : Type 0} (eq : A → A → Bool) (laws : IsEquivalence eq) (same : 
   has_noted : (ms : List A) (e b : A) → is_among eq (insert_key eq ms e) b ≡ (is_among eq ms b || is_among eq (e ∷ []) b)
   has_noted ms e b =
       elim (is_among eq ms e) as (λ t. is_among eq ms e ≡ t → is_among eq (cond t ms (ms ++ e ∷ [])) b ≡ (is_among eq ms b || is_among eq (e ∷ []) b)) [
-        | true ↦ λ m. same_truth _ _ (or_left _ _)
+        | true ↦ λ m. same_tests _ _ (or_left _ _)
             (λ h. elim (or_parts (is_among eq ms b) (is_among eq (e ∷ []) b) h) as (λ _. IsTrue (is_among eq ms b)) [
               | inl k ↦ k
               | inr k ↦ subst (Has ms) (sym (only eq same e b k)) m

@@ -1,11 +1,10 @@
 -- Room for the entities that come, and what each of their moves leaves of it.
 use Rattle.eco_store.proofs.Common.{◌≡◌, ◌≢◌, ℕ, ◌+◌, ◌-◌, ◌≤◌, ◌<◌, Bool, true, false, true≢false, IsTrue, All-nil}
-use Rattle.eco_store.proofs.Common.{All-push, AreMovesReady, KeepsRoomIn, SameTypes}
-use Rattle.eco_store.proofs.Common.{if◌then◌else◌, List, [], ◌∷◌, ◌++◌, map, length, get_or, slice_get, drop, Option, Some, None, is_some}
-use Rattle.eco_store.proofs.Common.{option_map, unwrap_or, IsSome, nat_eq, refl, sym, ap, ◌∙◌, arith, All, list_any, length-map, map-append}
-use Rattle.eco_store.proofs.Common.{get_or_default, All-head, All-tail, same_Some, Entity, Id, changed, change_kept, Indexed, is_alive, record_of, not_equal}
-use Rattle.eco_store.proofs.Common.{TableState, slot_of, table_in, no_table, Moves, SetsSlot, type_at, KeepsTypes, moves_types, Move, arriving}
-use Rattle.eco_store.proofs.Common.{AdmitsRow, AreTyped, HasRoomFor, SameIn}
+use Rattle.eco_store.proofs.Common.{All-push, AreMovesReady, KeepsRoomIn, SameTypes, if◌then◌else◌, List, [], ◌∷◌, ◌++◌, map, length, get_or}
+use Rattle.eco_store.proofs.Common.{slice_get, drop, Option, Some, None, is_some, option_map, unwrap_or, IsSome, nat_eq, refl, sym, ap, ◌∙◌, arith, All}
+use Rattle.eco_store.proofs.Common.{list_any, length-map, map-append, get_or_default, All-head, All-tail, same_Some, Entity, Id, changed, change_kept, Indexed}
+use Rattle.eco_store.proofs.Common.{is_alive, record_of, not_equal, TableState, slot_of, table_in, no_table, Moves, SetsSlot, type_at, KeepsTypes, moves_types}
+use Rattle.eco_store.proofs.Common.{Move, arriving, AdmitsRow, AreTyped, HasRoomFor, SameIn}
 use Rattle.std.proofs.Math.ListN.{get_or-map}
 use Rattle.eco_store.proofs.RowChanges.{is_equal}
 use Rattle.eco_store.proofs.Views.{at_each}

@@ -38,7 +38,7 @@ pub use Rattle.eco_entities.specs.Registration.{CreatesRegistration, Registratio
 pub use Rattle.eco_entities.specs.Runs.{Admit, Call, Create, Kill, LeadsTo, MakeAlive, Rename, SetPlace}
 pub use Rattle.eco_entities.specs.declared.place.Place.{Place}
 pub use Rattle.eco_ids.proofs.Ascending.{both, first, less, second}
-pub use Rattle.eco_ids.proofs.Facts.{equal_tie, id_eq_itself, not_both, or_parts, or_right}
+pub use Rattle.eco_ids.proofs.Facts.{equal_tie, id_eq_itself, not_both, or_parts, or_right, same_tests}
 pub use Rattle.eco_ids.proofs.Lists.{before, get_or-swap_remove, length-swap_remove, map-replicate, not_equal, set_own, slice_get-push_last}
 pub use Rattle.eco_ids.proofs.Lists.{slice_get-push_other, slice_get-set_other, slice_get-set_same, slice_get-set_there}
 pub use Rattle.eco_ids.proofs.Overlaps.{entity_eq_is, entity_eq_itself}
@@ -71,9 +71,8 @@ pub use Rattle.eco_store.specs.Retyping.{IsOneWay, IsTypeBy, after_change, after
 pub use Rattle.eco_store.specs.Seats.{IsSeated, Seat, held_of, seat_of, seated_entity}
 pub use Rattle.eco_store.specs.Staying.{KeepsRoomIn, SameIn, StayingState, all_staying, only_idle, with_gathered, with_target}
 pub use Rattle.eco_store.specs.Store.{CreatesRecord, HasPlace, IsShown, IsStore, Stands, StoreState, Tries, arity_in_store, fits_in_store, has_in_store}
-pub use Rattle.eco_store.specs.Store.{held_at, held_in_store, newborn, own_arity_in_store, read, record_for, record_ids, record_name, seat_at}
-pub use Rattle.eco_store.specs.Store.{seat_in, seat_of_place}
-pub use Rattle.eco_store.specs.Store.{stepped, type_in_store, with_exchanged, with_toggled, with_type}
+pub use Rattle.eco_store.specs.Store.{held_at, held_in_store, newborn, own_arity_in_store, read, record_for, record_ids, record_name, seat_at, seat_in}
+pub use Rattle.eco_store.specs.Store.{seat_of_place, stepped, type_in_store, with_exchanged, with_toggled, with_type}
 pub use Rattle.eco_store.specs.Transfers.{AreNamed, AreTransfersReady, HasRoom, IsNamed, IsPlan, Pours, Thins, change_of, due, place_after, placed_after}
 pub use Rattle.eco_store.specs.Transfers.{with_places}
 pub use Rattle.eco_store.specs.declared.layout.Layout.{Layout}

@@ -1,9 +1,8 @@
 -- Two entities step, and the table that the second one goes to is taken before the first step.
 use Rattle.eco_store.proofs.Common.{◌≡◌, ◌≢◌, ℕ, ◌+◌, ◌≤◌, Bool, true, false, IsTrue, if◌then◌else◌, List, [], ◌∷◌}
-use Rattle.eco_store.proofs.Common.{slice_get, Option, Some, option_map, unwrap_or, nat_eq, refl, sym, ap, ◌∙◌, arith, Result, Ok, Err, IfOk}
-use Rattle.eco_store.proofs.Common.{OnErr, MatchBool}
-use Rattle.eco_store.proofs.Common.{list_any, set_comm, Entity, Id, changed, change_kept, is_alive, record_in, record_of, with_record, Indexed, Living}
-use Rattle.eco_store.proofs.Common.{slice_get-set_other, living_at, same_parts, Place, Registration, own_place, retyped, TableState, slot_of, table_in}
+use Rattle.eco_store.proofs.Common.{slice_get, Option, Some, option_map, unwrap_or, nat_eq, refl, sym, ap, ◌∙◌, arith, Result, Ok, Err, IfOk, OnErr}
+use Rattle.eco_store.proofs.Common.{MatchBool, list_any, set_comm, Entity, Id, changed, change_kept, is_alive, record_in, record_of, with_record, Indexed}
+use Rattle.eco_store.proofs.Common.{Living, slice_get-set_other, living_at, same_parts, Place, Registration, own_place, retyped, TableState, slot_of, table_in}
 use Rattle.eco_store.proofs.Common.{no_table, AllHaveIds, toggled, KeepsRoom, KeepsTypes, MayTakeType, SameSlots, StillCover, rows_from_slots, Layout, seen}
 use Rattle.eco_store.proofs.Common.{IsLaid, arriving, AdmitsRow, LeavesRoom, Turns, all_staying, read, record_ids, stepped, type_in_store, with_toggled}
 use Rattle.eco_store.proofs.Laid.{laid_slots}

@@ -1,13 +1,12 @@
 -- Who has ids that pass a test stands in a table whose type does.
 use Rattle.eco_store.proofs.Common.{◌≡◌, ◌≢◌, ℕ, ◌<◌, Bool, true, false, true≢false, ◌&&◌, ◌||◌, IsTrue, ◌↔◌, nat_eq, nat_lt}
-use Rattle.eco_store.proofs.Common.{List, [], ◌∷◌, map, length, get_or, slice_get, Option, Some, None, option_map, unwrap_or, refl, sym, ap, ◌∙◌}
-use Rattle.eco_store.proofs.Common.{subst, arith, inl, inr, AllByRecursion, Contains, list_any, Decides-eqb, nat_tests, get_or-map, length-map}
+use Rattle.eco_store.proofs.Common.{same_tests, List, [], ◌∷◌, map, length, get_or, slice_get, Option, Some, None, option_map, unwrap_or, refl, sym, ap}
+use Rattle.eco_store.proofs.Common.{◌∙◌, subst, arith, inl, inr, AllByRecursion, Contains, list_any, Decides-eqb, nat_tests, get_or-map, length-map}
 use Rattle.eco_store.proofs.Common.{Contains-append_cases, Contains-append_left, Contains-append_right, get_or_from_slice_get, none-some, same_Some}
 use Rattle.eco_store.proofs.Common.{slice_get-get_or, Record, Entity, Id, Indexed, living, record_of, entity_cmp, has_item, is_ascending, TableRow, TableState}
 use Rattle.eco_store.proofs.Common.{entities_of, no_table, slot_of, table_in, is_found_by, FindsSome, standing_in, row_at, passes, entities_whose, IsShown}
 use Rattle.eco_store.proofs.Common.{first, second, or_right, slice_get_within}
 use Rattle.std.specs.List.{IsDistinct}
-use Rattle.eco_index.proofs.TypeTests.{same_truth}
 use Rattle.eco_ids.proofs.Passing.{PassesOwn, own_from_passed, passed_ascend, passed_from_own, passes_some, some_passes}
 use Rattle.eco_store.proofs.Sorting.{Apart, apart_append}
 use Rattle.eco_store.proofs.Values.{stands_type}
@@ -74,7 +73,7 @@ module _ (w : Indexed Record) (s : List (Option TableState)) (test : List Id →
   -- some table is found exactly where some living entity has a match
   pub held_is : (b : Bool) → IsTrue b ↔ FindsSome test s → b ≡ list_any (λ (x : Entity × Record). passes test x.1) (living w)
   held_is b finds =
-      same_truth b (list_any (λ (x : Entity × Record). passes test x.1) (living w))
+      same_tests b (list_any (λ (x : Entity × Record). passes test x.1) (living w))
       (λ h. some_held (finds.0 h))
       (λ h.
       let some = some_passes (passes test) w h in

@@ -1,7 +1,6 @@
 -- A store: a record of each living entity, as the world has it, with no table in it.
-use Rattle.std.specs.Prelude.{◌≡◌, ℕ, ◌<◌, ◌==◌, nat_lt, Bool, ◌&&◌, false, Result, length, slice_index_or, List, [], map}
-use Rattle.std.specs.Prelude.{slice_get, Option, None, Some}
-use Rattle.std.specs.Prelude.{IsSome, is_some, option_map, option_and_then, unwrap_or, OnErr, OnOk}
+use Rattle.std.specs.Prelude.{◌≡◌, ℕ, ◌<◌, ◌==◌, nat_lt, Bool, ◌&&◌, false, Result, length, slice_index_or, List, [], map, slice_get}
+use Rattle.std.specs.Prelude.{Option, None, Some, IsSome, is_some, option_map, option_and_then, unwrap_or, OnErr, OnOk}
 use Rattle.std.specs.FinMap.Entries.{find}
 use Rattle.std.specs.Option.{option_or}
 use Rattle.eco_ids.specs.declared.entity.Entity.{Entity}

@@ -82,7 +82,8 @@ written-ascending (c ∷ cs) (suc i) row id v d within is up =
 
 -- the column at the place of an id
 module _ (cs : List ColumnState) (i : ℕ) (id : Id) (at : slice_get (map (λ c. c.id) cs) i ≡ Some id) where
-  of_place : (xs : List ColumnState) (k : ℕ) (d : ColumnState) → slice_get (map (λ c. c.id) xs) k ≡ Some id → (k < length xs) × (id ≡ (get_or xs k d).id)
+  of_place : (xs : List ColumnState) (k : ℕ) (d : ColumnState) → slice_get (map (λ c. c.id) xs) k ≡ Some id
+      → (k < length xs) × (id ≡ (get_or xs k d).id)
   of_place [] k d e = let bad : ◌≡◌ {A = Option Id} None (Some id) = e in cc
   of_place (x ∷ xs) zero d e = (omega arith, (let same : ◌≡◌ {A = Option Id} (Some x.id) (Some id) = e in cc))
   of_place (x ∷ xs) (suc k) d e = let rest = of_place xs k d e in (omega arith, rest.1)
@@ -141,7 +142,8 @@ mapped_all f xs ys i past done =
     done ∙ ap (λ zs. map f zs ++ drop i xs) (take_all i xs past) ∙ ap (λ zs. map f xs ++ zs) (drop_all i xs past) ∙ append-nil (map f xs)
 
 -- one more turn of a loop that takes room
-pub contents_kept : (ys : List ColumnState) (i : ℕ) (d y : ColumnState) → contents y ≡ contents (get_or ys i d) → map contents (set ys i y) ≡ map contents ys
+pub contents_kept : (ys : List ColumnState) (i : ℕ) (d y : ColumnState) → contents y ≡ contents (get_or ys i d)
+    → map contents (set ys i y) ≡ map contents ys
 contents_kept [] i d y same = refl
 contents_kept (c ∷ cs) zero d y same = ap (λ x. x ∷ map contents cs) same
 contents_kept (c ∷ cs) (suc i) d y same = ap (λ xs. contents c ∷ xs) (contents_kept cs i d y same)
@@ -190,7 +192,8 @@ rest_more xs ys i y rest = drop-set-lt (i + 1) ys i y (omega arith) ∙ more ys 
     more (z ∷ zs) (suc k) = let e : suc k + 1 ≡ suc (k + 1) = omega arith in rw e (more zs k)
 
 -- ids of columns are looked for as ids are
-pub positions : (cs : List ColumnState) (k : ℕ) (id : Id) → position_from (λ c. id_eq c.id id) k cs ≡ position_from (λ own. id_eq own id) k (map (λ c. c.id) cs)
+pub positions : (cs : List ColumnState) (k : ℕ) (id : Id)
+    → position_from (λ c. id_eq c.id id) k cs ≡ position_from (λ own. id_eq own id) k (map (λ c. c.id) cs)
 positions [] k id = refl
 positions (c ∷ cs) k id = ap (λ o. cond (id_eq c.id id) (Some k) o) (positions cs (k + 1) id)
 
@@ -238,12 +241,14 @@ pub nowhere : (cs : List ColumnState) (id : Id) → ((k : ℕ) (d : ColumnState)
 nowhere [] id none = refl
 nowhere (c ∷ cs) id none = by (id_eq c.id id) refl (nowhere cs id (λ k d within is. none (suc k) d (omega arith) is))
   where
-    by : (b : Bool) → id_eq c.id id ≡ b → has_item id_cmp (map (λ x. x.id) cs) id ≡ false → has_item id_cmp (map (λ x. x.id) (c ∷ cs)) id ≡ false
+    by : (b : Bool) → id_eq c.id id ≡ b → has_item id_cmp (map (λ x. x.id) cs) id ≡ false
+        → has_item id_cmp (map (λ x. x.id) (c ∷ cs)) id ≡ false
     by true e rest = absurd (none 0 c (omega arith) (same_id c.id id (equal_tie _ e)))
     by false e rest = rw e rest
 
 -- the id at a place
-pub id_at : (cs : List ColumnState) (k : ℕ) (d : ColumnState) (id : Id) → k < length cs → (get_or cs k d).id ≡ id → slice_get (map (λ c. c.id) cs) k ≡ Some id
+pub id_at : (cs : List ColumnState) (k : ℕ) (d : ColumnState) (id : Id) → k < length cs → (get_or cs k d).id ≡ id
+    → slice_get (map (λ c. c.id) cs) k ≡ Some id
 id_at [] k d id within is = absurd (omega arith)
 id_at (c ∷ cs) zero d id within is = ap Some is
 id_at (c ∷ cs) (suc k) d id within is = id_at cs k d id (omega arith) is

@@ -12,7 +12,8 @@ wide ids cs kinds i there =
     let some : 1 ≤ width_among (map kind_of cs) i = kinds.wide i (rw (ids_of_kinds cs) there) in
     let positive : 0 < width_among (map kind_of cs) i = omega arith in
     subst (λ o. 0 < unwrap_or o 0)
-    (sym (width-each ids (map kind_of cs) i ∙ ap (λ b. if b then Some (width_among (map kind_of cs) i) else None) (within_ids ids cs kinds i there))) positive
+    (sym (width-each ids (map kind_of cs) i ∙ ap (λ b. if b then Some (width_among (map kind_of cs) i) else None)
+    (within_ids ids cs kinds i there))) positive
 
 -- a row has no value of an id that has no width, and zeros of one whose width is 0
 abbrev IsUnread : List TableRow → ℕ → Id → Option ℕ → Type 0

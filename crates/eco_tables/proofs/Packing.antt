@@ -35,7 +35,8 @@ zeros_padded w few =
     λ t. record { 0 = fields t }
 
 -- zeros behind what is kept are zeros behind the values
-pub zeros_joined : (width n m count : ℕ) (xs ys : List (List ℤ)) (whole : Bool) → width ≤ FIELD_COUNT → whole ≡ true → m ≡ length xs → n ≡ m + count
+pub zeros_joined : (width n m count : ℕ) (xs ys : List (List ℤ)) (whole : Bool) → width ≤ FIELD_COUNT → whole ≡ true → m ≡ length xs
+    → n ≡ m + count
     → ys ≡ (if whole then take n xs ++ replicate (n - m) (replicate width (pos 0)) else xs)
     → map padded ys ≡ map padded xs ++ replicate count zeros
 zeros_joined width n m count xs ys whole few ok is_m is_n e =

@@ -176,7 +176,8 @@ values_absent cs es i none =
 pub written_rows : (cs : List ColumnState) (es : List Entity) (row : ℕ) (i : Id) (v : Value) (r : TableRow)
     → All (λ c. length c.values ≡ length es) cs → row < length es
     → rows_from (map (λ c. written c row i v) cs) 0 es
-    ≡ set (rows_from cs 0 es) row (record { entity = (get_or (rows_from cs 0 es) row r).entity; held = with_held (get_or (rows_from cs 0 es) row r).held i v })
+    ≡ set (rows_from cs 0 es) row
+    (record { entity = (get_or (rows_from cs 0 es) row r).entity; held = with_held (get_or (rows_from cs 0 es) row r).held i v })
 written_rows cs es row i v r even there =
     let new : TableRow = record { entity = (get_or (rows_from cs 0 es) row r).entity; held = with_held (get_or (rows_from cs 0 es) row r).held i v } in
     let ds = map (λ c. written c row i v) cs in
@@ -188,7 +189,8 @@ written_rows cs es row i v r even there =
           (λ t. row_of (get_or es (same t) r.entity) ds (same t))
           ∙ (λ t. record { entity = get_or es row r.entity; held = written_here cs row i v (λ k d in_cs. rw (even k d in_cs) there) t })
           ∙ sym (λ t. record { entity = (was t).entity; held = with_held (was t).held i v })
-          ∙ sym (ap (λ k. get_or (set (rows_from cs 0 es) row new) k r) same ∙ get_or-set_same (rows_from cs 0 es) row new r (rw (length-rows cs 0 es) there))
+          ∙ sym (ap (λ k. get_or (set (rows_from cs 0 es) row new) k r) same ∙ get_or-set_same (rows_from cs 0 es) row new r
+          (rw (length-rows cs 0 es) there))
       | inr other ↦
           (λ t. record {
             entity = get_or es j r.entity;
@@ -281,7 +283,8 @@ kinds_same f same [] = refl
 kinds_same f same (c ∷ cs) = λ t. same c t ∷ kinds_same f same cs t
 
 -- the table under columns of the same kinds
-pub changed_table : (ids : List Id) (cs ds : List ColumnState) (es : List Entity) (room room' : ℕ) (rows : List TableRow) → map kind_of ds ≡ map kind_of cs
+pub changed_table : (ids : List Id) (cs ds : List ColumnState) (es : List Entity) (room room' : ℕ) (rows : List TableRow)
+    → map kind_of ds ≡ map kind_of cs
     → rows_of ids ds es ≡ rows → room ≡ room'
     → table_of ids ds es room ≡ record { ids = ids; widths = map (width_among (map kind_of cs)) ids; rows = rows; room = room' }
 changed_table ids cs ds es room room' rows kinds shown left = λ t.
@@ -313,7 +316,8 @@ unwritten : (held : List (Id × Value)) (i : Id) (v : Value) → has_item id_cmp
 unwritten [] i v none = refl
 unwritten (p ∷ held) i v none = by (id_eq p.0 i) refl (unwritten held i v)
   where
-    by : (b : Bool) → id_eq p.0 i ≡ b → (has_item id_cmp (map (λ q. q.0) held) i ≡ false → with_held held i v ≡ held) → with_held (p ∷ held) i v ≡ p ∷ held
+    by : (b : Bool) → id_eq p.0 i ≡ b → (has_item id_cmp (map (λ q. q.0) held) i ≡ false → with_held held i v ≡ held)
+        → with_held (p ∷ held) i v ≡ p ∷ held
     by true e rest = let bad = rw e at none in cc
     by false e rest = let later = rw e at none in rw e (ap (λ xs. p ∷ xs) (rest later))
 
@@ -390,7 +394,8 @@ module _ (ids : List Id) (cs : List ColumnState) (kinds : AreKinds ids (map kind
       by false e = sym (zeros_held k i (outside i e))
 
   -- a value that is written in a row
-  pub written_held : (k : ℕ) (i : Id) (v : Value) → ((n : ℕ) → find id_cmp i (paired ids (map (width_among (map kind_of cs)) ids)) ≡ Some n → Fits n v)
+  pub written_held : (k : ℕ) (i : Id) (v : Value)
+      → ((n : ℕ) → find id_cmp i (paired ids (map (width_among (map kind_of cs)) ids)) ≡ Some n → Fits n v)
       → retyped ids (with_held (held_in cs k) i v) ≡ with_held (retyped ids (held_in cs k)) i v
   written_held k i v fits =
       retyped-written ids (held_in cs k) (with_held (held_in cs k) i v) i v
@@ -410,7 +415,8 @@ module _ (ids : List Id) (cs : List ColumnState) (kinds : AreKinds ids (map kind
       let there = shown_rows (suc k) es i in
       λ t. held_value k i t ∷ there t
 
-  pub narrow : (i : Id) → has_item id_cmp (map (λ c. c.id) cs) i ≡ false → unwrap_or (find id_cmp i (paired ids (map (width_among (map kind_of cs)) ids))) 0 ≡ 0
+  pub narrow : (i : Id) → has_item id_cmp (map (λ c. c.id) cs) i ≡ false
+      → unwrap_or (find id_cmp i (paired ids (map (width_among (map kind_of cs)) ids))) 0 ≡ 0
   narrow i none = ap (λ o. unwrap_or o 0) (width-each ids (map kind_of cs) i) ∙ by (has_item id_cmp ids i)
     where
       by : (b : Bool) → unwrap_or (if b then Some (width_among (map kind_of cs) i) else None) 0 ≡ 0
@@ -428,7 +434,8 @@ module _ (ids sids : List Id) (cs ds : List ColumnState) (own : AreKinds ids (ma
       ∙ by i there (has_item id_cmp (map (λ c. c.id) cs) i) refl (has_item id_cmp sids i) refl
       ∙ sym (value-retyped sids (held_in ds k) i))
     where
-      by : (i : Id) → has_item id_cmp ids i ≡ true → (b : Bool) → has_item id_cmp (map (λ c. c.id) cs) i ≡ b → (b2 : Bool) → has_item id_cmp sids i ≡ b2
+      by : (i : Id) → has_item id_cmp ids i ≡ true → (b : Bool) → has_item id_cmp (map (λ c. c.id) cs) i ≡ b → (b2 : Bool)
+          → has_item id_cmp sids i ≡ b2
           → (if b then value_in (held_in ds k) i else zeros) ≡ (if b2 then value_in (held_in ds k) i else zeros)
       by i there true e true e2 = refl
       by i there true e false e2 = zeros_held sids ds others k i (outside sids ds others i e2)
@@ -505,7 +512,8 @@ pub set_rows : (ids : List Id) (cs : List ColumnState) (es : List Entity) (row :
     → All (λ c. length c.values ≡ length es) cs → row < length es
     → retyped ids (with_held (held_in cs row) i v) ≡ with_held (retyped ids (held_in cs row)) i v
     → rows_of ids (map (λ c. written c row i v) cs) es
-    ≡ set (rows_of ids cs es) row (record { entity = (get_or (rows_of ids cs es) row r).entity; held = with_held (get_or (rows_of ids cs es) row r).held i v })
+    ≡ set (rows_of ids cs es) row
+    (record { entity = (get_or (rows_of ids cs es) row r).entity; held = with_held (get_or (rows_of ids cs es) row r).held i v })
 set_rows ids cs es row i v r even there same =
     let within : row < length (rows_from cs 0 es) = rw (length-rows cs 0 es) there in
     let was : get_or (rows_from cs 0 es) row r ≡ row_of (get_or es row r.entity) cs row = get_or-rows cs es row r.entity r there in
@@ -530,7 +538,8 @@ module _ (ids : List Id) (es : List Entity) (capacity : ℕ) (cs : List ColumnSt
   row_in_columns row h = λ k d in_cs. rw (shape.even k d in_cs) (row_within row h)
 
   -- a row of the table
-  pub row_at : (row : ℕ) (e : Entity) (r : TableRow) → row < length es → get_or (rows_of ids cs es) row r ≡ retyped_row ids (row_of (get_or es row e) cs row)
+  pub row_at : (row : ℕ) (e : Entity) (r : TableRow) → row < length es
+      → get_or (rows_of ids cs es) row r ≡ retyped_row ids (row_of (get_or es row e) cs row)
   row_at row e r there =
       get_or-map (retyped_row ids) (rows_from cs 0 es) row r r (rw (length-rows cs 0 es) there) ∙ ap (retyped_row ids) (get_or-rows cs es row e r there)
 
@@ -547,7 +556,8 @@ module _ (ids : List Id) (es : List Entity) (capacity : ℕ) (cs : List ColumnSt
     rows_room = omega (arith, shape.rows_room, length-append es fs);
   }
 
-  pub shape_removed : (row : ℕ) (e : Entity) → row < length es → HasShape ids (swap_remove es row e) capacity (map (λ c. with_removed c row) cs) (room + 1)
+  pub shape_removed : (row : ℕ) (e : Entity) → row < length es
+      → HasShape ids (swap_remove es row e) capacity (map (λ c. with_removed c row) cs) (room + 1)
   shape_removed row e there = record {
     kinds = rw (kinds_same (λ c. with_removed c row) (λ c. refl) cs) shape.kinds;
     even = All-map (λ c. length c.values ≡ length (swap_remove es row e)) (λ c. with_removed c row) cs
@@ -608,14 +618,16 @@ module _ (ids : List Id) (es : List Entity) (capacity : ℕ) (cs : List ColumnSt
           ∙ shape.even k d in_cs
 
   -- a value that is read
-  pub value_read : (row : ℕ) (i : Id) (r : TableRow) → row < length es → value_in (get_or (rows_of ids cs es) row r).held i ≡ value_in (held_in cs row) i
+  pub value_read : (row : ℕ) (i : Id) (r : TableRow) → row < length es
+      → value_in (get_or (rows_of ids cs es) row r).held i ≡ value_in (held_in cs row) i
   value_read row i r there = ap (λ (x : TableRow). value_in x.held i) (row_at row r.entity r there) ∙ held_value ids cs shape.kinds row i
 
   find_read : (row : ℕ) (i : Id) (r : TableRow) → row < length es
       → find id_cmp i (get_or (rows_of ids cs es) row r).held ≡ (if has_item id_cmp ids i then Some (value_in (held_in cs row) i) else None)
   find_read row i r there = ap (λ (x : TableRow). find id_cmp i x.held) (row_at row r.entity r there) ∙ find-each (value_in (held_in cs row)) ids i
 
-  pub has_read : (row : ℕ) (i : Id) (r : TableRow) → row < length es → is_some (find id_cmp i (get_or (rows_of ids cs es) row r).held) ≡ has_item id_cmp ids i
+  pub has_read : (row : ℕ) (i : Id) (r : TableRow) → row < length es
+      → is_some (find id_cmp i (get_or (rows_of ids cs es) row r).held) ≡ has_item id_cmp ids i
   has_read row i r there = ap is_some (find_read row i r there) ∙ by (has_item id_cmp ids i)
     where
       by : (b : Bool) → is_some (if b then Some (value_in (held_in cs row) i) else None) ≡ b
@@ -635,7 +647,8 @@ module _ (ids : List Id) (es : List Entity) (capacity : ℕ) (cs : List ColumnSt
       → find id_cmp i (get_or (rows_of ids cs es) row r).held ≡ Some v
   found_read row i r v there found =
       find_read row i r there
-      ∙ ap (λ b. if b then Some (value_in (held_in cs row) i) else None) (within_ids ids cs shape.kinds i (has (has_item id_cmp (map (λ c. c.id) cs) i) refl))
+      ∙ ap (λ b. if b then Some (value_in (held_in cs row) i) else None)
+      (within_ids ids cs shape.kinds i (has (has_item id_cmp (map (λ c. c.id) cs) i) refl))
       ∙ ap (λ o. Some (unwrap_or o zeros)) found
     where
       has : (b : Bool) → has_item id_cmp (map (λ c. c.id) cs) i ≡ b → has_item id_cmp (map (λ c. c.id) cs) i ≡ true

@@ -17,7 +17,8 @@ use Rattle.eco_tables.proofs.Widths.{is_same, or_first, same_within, width-each}
 
 abbrev IsEnd : ColumnState → List ColumnState → ℕ → ℕ → Type 0
 IsEnd c cs k m =
-    (unwrap_or (position_from (λ d. not (is_lt (id_cmp d.id c.id))) k cs) (k + length cs) ≡ k + m) × (insert cs m c ≡ with_column cs c) × (m ≤ length cs)
+    (unwrap_or (position_from (λ d. not (is_lt (id_cmp d.id c.id))) k cs) (k + length cs) ≡ k + m)
+    × (insert cs m c ≡ with_column cs c) × (m ≤ length cs)
 
 end_of : (c : ColumnState) (cs : List ColumnState) (k : ℕ) → (m : ℕ) × IsEnd c cs k m
 end_of c [] k = (0, (refl, refl, omega arith))
@@ -194,7 +195,8 @@ module _ (ids : List Id) (cs : List ColumnState) (kinds : AreKinds ids (map kind
     pub more_width : (j : Id) → width_among (map kind_of (with_column cs c)) j ≡ (if id_eq j c.id then c.width else width_among (map kind_of cs) j)
     more_width j = ap (λ o. unwrap_or o 0) (find_with (λ x. x.width) cs c j none) ∙ pick (id_eq j c.id)
       where
-        pick : (b : Bool) → unwrap_or (if b then Some c.width else find id_cmp j (map kind_of cs)) 0 ≡ (if b then c.width else width_among (map kind_of cs) j)
+        pick : (b : Bool) → unwrap_or (if b then Some c.width else find id_cmp j (map kind_of cs)) 0
+            ≡ (if b then c.width else width_among (map kind_of cs) j)
         pick true = refl
         pick false = refl
 
@@ -276,7 +278,8 @@ module _ (ids : List Id) (cs : List ColumnState) (kinds : AreKinds ids (map kind
     width_read : (j : Id) → unwrap_or (find id_cmp j (paired ids (map (width_among (map kind_of cs)) ids))) 0 ≡ width_among (map kind_of cs) j
     width_read j = ap (λ o. unwrap_or o 0) (width-each ids (map kind_of cs) j) ∙ by (has_item id_cmp ids j) refl
       where
-        by : (b : Bool) → has_item id_cmp ids j ≡ b → unwrap_or (if b then Some (width_among (map kind_of cs) j) else None) 0 ≡ width_among (map kind_of cs) j
+        by : (b : Bool) → has_item id_cmp ids j ≡ b
+            → unwrap_or (if b then Some (width_among (map kind_of cs) j) else None) 0 ≡ width_among (map kind_of cs) j
         by true e = refl
         by false e = sym (no_column ids cs kinds j (outside ids cs kinds j e))
 
@@ -287,7 +290,8 @@ module _ (ids : List Id) (cs : List ColumnState) (kinds : AreKinds ids (map kind
         let there = same_numbers f g js (λ k has. same k (or_right (id_eq j k) _ has)) in
         λ t. here t ∷ there t
 
-    turned_rows : (k : ℕ) (fs : List Entity) → map (retyped_row ids') (rows_from ds k fs) ≡ map (retyped_row ids') (map (retyped_row ids) (rows_from cs k fs))
+    turned_rows : (k : ℕ) (fs : List Entity)
+        → map (retyped_row ids') (rows_from ds k fs) ≡ map (retyped_row ids') (map (retyped_row ids) (rows_from cs k fs))
     turned_rows k [] = refl
     turned_rows k (e ∷ fs) =
         let here = same_within ids' (value_in (held_in ds k)) (value_in (retyped ids (held_in cs k)))

@@ -46,7 +46,8 @@ same_within (j ∷ js) f g same =
     λ t. (j, here t) ∷ there t
 
 -- a value that is written is read again
-pub value-written : (held : List (Id × Value)) (i : Id) (v : Value) → has_item id_cmp (map (λ p. p.0) held) i ≡ true → value_in (with_held held i v) i ≡ v
+pub value-written : (held : List (Id × Value)) (i : Id) (v : Value) → has_item id_cmp (map (λ p. p.0) held) i ≡ true
+    → value_in (with_held held i v) i ≡ v
 value-written [] i v has = absurd (true≢false (sym has))
 value-written (p ∷ held) i v has = by (id_eq p.0 i) refl (value-written held i v)
   where
@@ -119,7 +120,8 @@ kinds-within (i ∷ is) (suc w ∷ ws) j has = by (id_eq i j) (kinds-within is w
     by true rest h = refl
     by false rest h = rest h
 
-kinds-wide : (ids : List Id) (ws : List ℕ) (j : Id) → IsTrue (has_item id_cmp (map (λ k. k.0) (kinds_of ids ws)) j) → 1 ≤ width_among (kinds_of ids ws) j
+kinds-wide : (ids : List Id) (ws : List ℕ) (j : Id) → IsTrue (has_item id_cmp (map (λ k. k.0) (kinds_of ids ws)) j)
+    → 1 ≤ width_among (kinds_of ids ws) j
 kinds-wide [] ws j has = absurd (true≢false (sym has))
 kinds-wide (i ∷ is) [] j has = absurd (true≢false (sym has))
 kinds-wide (i ∷ is) (zero ∷ ws) j has = kinds-wide is ws j has
@@ -137,7 +139,8 @@ absent_width : (kinds : List (Id × ℕ)) (i : Id) → has_item id_cmp (map (λ 
 absent_width [] i none = refl
 absent_width (k ∷ ks) i none = by (id_eq k.0 i) refl (absent_width ks i)
   where
-    by : (b : Bool) → id_eq k.0 i ≡ b → (has_item id_cmp (map (λ q. q.0) ks) i ≡ false → find id_cmp i ks ≡ None) → find id_cmp i (k ∷ ks) ≡ None
+    by : (b : Bool) → id_eq k.0 i ≡ b → (has_item id_cmp (map (λ q. q.0) ks) i ≡ false → find id_cmp i ks ≡ None)
+        → find id_cmp i (k ∷ ks) ≡ None
     by true e rest = let bad = rw e at none in cc
     by false e rest =
         let later = rw e at none in
@@ -149,7 +152,8 @@ pub width-none : (kinds : List (Id × ℕ)) (i : Id) → has_item id_cmp (map (�
 width-none kinds i none = ap (λ o. unwrap_or o 0) (absent_width kinds i none)
 
 -- each id has the width that its table was made with
-pub widths_kept : (ids : List Id) (ws : List ℕ) → IsTrue (is_ascending id_cmp ids) → length ids ≡ length ws → map (width_among (kinds_of ids ws)) ids ≡ ws
+pub widths_kept : (ids : List Id) (ws : List ℕ) → IsTrue (is_ascending id_cmp ids) → length ids ≡ length ws
+    → map (width_among (kinds_of ids ws)) ids ≡ ws
 widths_kept [] [] up same = refl
 widths_kept [] (w ∷ ws) up same = absurd (omega (arith, same))
 widths_kept (i ∷ is) [] up same = absurd (omega (arith, same))
@@ -172,7 +176,8 @@ widths_kept (i ∷ is) (suc w ∷ ws) up same =
 
 -- ---- columns made one after another
 
-kinds_more : (k : ℕ) (ids : List Id) (ws : List ℕ) (i d : Id) (w e : ℕ) → k < length ids → k < length ws → i ≡ get_or ids k d → w ≡ get_or ws k e
+kinds_more : (k : ℕ) (ids : List Id) (ws : List ℕ) (i d : Id) (w e : ℕ) → k < length ids → k < length ws → i ≡ get_or ids k d
+    → w ≡ get_or ws k e
     → kinds_of (take (suc k) ids) (take (suc k) ws) ≡ kinds_of (take k ids) (take k ws) ++ kinds_of (i ∷ []) (w ∷ [])
 kinds_more k [] ws i d w e in_ids in_ws is_i is_w = absurd (omega arith)
 kinds_more k (x ∷ xs) [] i d w e in_ids in_ws is_i is_w = absurd (omega arith)

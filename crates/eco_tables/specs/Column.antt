@@ -1,5 +1,6 @@
 -- The values of one id, a place for each row.
-use Rattle.std.specs.Prelude.{◌≡◌, ℕ, ◌+◌, ◌-◌, List, [], ◌∷◌, ◌++◌, filter, not, map, length, take, slice_index_or, slice_set, unwrap_or}
+use Rattle.std.specs.Prelude.{◌≡◌, ℕ, ◌+◌, ◌-◌, List, [], ◌∷◌, ◌++◌, filter, not, map, length, take, slice_index_or}
+use Rattle.std.specs.Prelude.{slice_set, unwrap_or}
 use Rattle.std.specs.Prelude.{if◌then◌else◌}
 use Rattle.std.specs.List.{swap_remove}
 use Rattle.std.specs.FinMap.Entries.{find}

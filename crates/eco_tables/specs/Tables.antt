@@ -1,5 +1,6 @@
 -- Tables in slots.
-use Rattle.std.specs.Prelude.{◌≡◌, ◌≢◌, ℕ, ◌-◌, ◌+◌, ◌≤◌, ◌<◌, List, [], ◌∷◌, ◌++◌, Option, None, Some, length, map, count_by, is_some, slice_index_or}
+use Rattle.std.specs.Prelude.{◌≡◌, ◌≢◌, ℕ, ◌-◌, ◌+◌, ◌≤◌, ◌<◌, List, [], ◌∷◌, ◌++◌, Option, None, Some}
+use Rattle.std.specs.Prelude.{length, map, count_by, is_some, slice_index_or}
 use Rattle.std.specs.Prelude.{slice_set, unwrap_or, if◌then◌else◌, option_map}
 use Rattle.std.specs.List.{swap_remove, All}
 use Rattle.eco_ids.specs.declared.entity.Entity.{Entity}

@@ -7,7 +7,8 @@ use Rattle.eco_traits.proofs.Members.{only}
 
 -- ---- the id with many heads
 
-has_head : (i : Id) (heads : List Entity) (x : Entity) → IsTrue (has_item entity_cmp heads x) → IsTrue (has_item id_cmp (with_heads i heads) (with_head i x))
+has_head : (i : Id) (heads : List Entity) (x : Entity) → IsTrue (has_item entity_cmp heads x)
+    → IsTrue (has_item id_cmp (with_heads i heads) (with_head i x))
 has_head i [] x h = absurd (true≢false (sym h))
 has_head i (y ∷ ys) x h =
     elim (or_parts (entity_eq y x) (has_item entity_cmp ys x) h) as (λ _. IsTrue
@@ -40,7 +41,8 @@ pub reach_to_closure : (w : WorldState) (i : Id) {x : Entity} → Reaches w WITH
 reach_to_closure w i (root e) = root (ap (with_head i) e ∙ own_head i)
 reach_to_closure w i (next {a = a} {b = b} member edge) = next (reach_to_closure w i member) (one_brings w i a b edge)
 
-brought : (w : WorldState) (i : Id) (a : Entity) (b : Id) → Brings w (with_head i a) b → (x : Entity) × IsTrue (has w a (Two WITH x)) × (b ≡ with_head i x)
+brought : (w : WorldState) (i : Id) (a : Entity) (b : Id) → Brings w (with_head i a) b
+    → (x : Entity) × IsTrue (has w a (Two WITH x)) × (b ≡ with_head i x)
 brought w (One c) a (One x) h = (x, h, refl)
 brought w (One c) a (Two r t) h = absurd h
 brought w (Two r t) a (One x) h = absurd h

@@ -13,7 +13,7 @@ pub use Rattle.std.specs.FinMap.Entries.{find, is_sorted-where_key, where_key}
 pub use Rattle.std.specs.List.{list_any}
 pub use Rattle.eco_ids.proofs.Ascending.{ascending_with, both, first, second}
 pub use Rattle.eco_ids.proofs.Exact.{id_eq_sym, keys, keys_find, keys_kept, keys_zeros}
-pub use Rattle.eco_ids.proofs.Facts.{any_is, equal_tie, id_eq_is, id_eq_itself, or_parts, or_right, same_or_apart, to_T}
+pub use Rattle.eco_ids.proofs.Facts.{any_is, equal_tie, id_eq_is, id_eq_itself, or_parts, or_right, same_or_apart, same_tests, to_T}
 pub use Rattle.eco_ids.proofs.Gains.{same_relationship}
 pub use Rattle.eco_ids.proofs.IdOrder.{entity_cmp_total, id_cmp_total, same_entity, same_id}
 pub use Rattle.eco_ids.proofs.Keeps.{entry_of, has_in, some_of}

@@ -83,7 +83,8 @@ pub keeps_heads : (i : Id) (ids new : List Id) (heads : List Entity) (k : ℕ) (
 keeps_heads i ids new heads k d l is same j =
     let y = with_head i (get_or heads k d) in
     let before = with_heads i (take k heads) in
-    ap (λ xs. has_item id_cmp xs j) is ∙ joins_with id_cmp_total ids y j ∙ ap (λ b. id_eq y j || b) (same j) ∙ flip (id_eq y j) (has_item id_cmp before j)
+    ap (λ xs. has_item id_cmp xs j) is ∙ joins_with id_cmp_total ids y j ∙ ap (λ b. id_eq y j || b) (same j)
+    ∙ flip (id_eq y j) (has_item id_cmp before j)
     ∙ ap (λ b. has_item id_cmp before j || b) (sym (or-false (id_eq y j)))
     ∙ sym (ap (λ xs. has_item id_cmp xs j) (map_more (with_head i) heads k d l) ∙ list_any-append (λ z. id_eq z j) before (y ∷ []))
   where

@@ -110,7 +110,8 @@ fold_more f start now new xs k d l is goes_on = grind (arith, common_steps, fold
 
 -- ---- all of it
 
-pub some_record : (o : Option Record) (ids : List Id) → Some ids ≡ option_map type_of_record o → (d : Record) × (o ≡ Some d) × (ids ≡ type_of_record d)
+pub some_record : (o : Option Record) (ids : List Id) → Some ids ≡ option_map type_of_record o
+    → (d : Record) × (o ≡ Some d) × (ids ≡ type_of_record d)
 some_record None ids e = absurd (true≢false (ap is_some e))
 some_record (Some d) ids e = (d, refl, ap (λ o. unwrap_or o ids) e)
 
@@ -119,7 +120,8 @@ pub lacked : (w : WorldState) (e : Entity) (i : Id) (r : Result (List Id) Refusa
     → AddLeadsTo w e i r
 lacked w e i r lives absent extends = grind (arith, common_steps)
 
-pub leads_to : (w : WorldState) (e : Entity) (i : Id) (s own kept all : List Id) (verdict : Option Refusal) → names_living w i ≡ true → has w e i ≡ false
+pub leads_to : (w : WorldState) (e : Entity) (i : Id) (s own kept all : List Id) (verdict : Option Refusal) → names_living w i ≡ true
+    → has w e i ≡ false
     → IsClosure w i s → Judges w e s (grown w e i s) verdict → verdict ≡ None → Some own ≡ option_map type_of_record (record_of w e) → IsTrue
     (is_ascending id_cmp own)
     → kept ≡ filter (λ j. not (is_replaced w s j)) own → all ≡ fold (with_item id_cmp) kept s → AddLeadsTo w e i (Ok all)

@@ -29,7 +29,8 @@ pub comes_alone : (w : WorldState) (i : Id) (ids : List Id) → AreTraitsOf w i 
 comes_alone w i ids own none = closure_alone w i (λ x h. true≢false (sym h ∙ has_listed w (head_of i) (Two WITH x) ids own ∙ none x))
 
 -- nothing is replaced
-replaces_none : (w : WorldState) (i : Id) (ids : List Id) → AreTraitsOf w i ids → IsPlain w.edition i ids → (j : Id) → is_replaced w (i ∷ []) j ≡ false
+replaces_none : (w : WorldState) (i : Id) (ids : List Id) → AreTraitsOf w i ids → IsPlain w.edition i ids → (j : Id)
+    → is_replaced w (i ∷ []) j ≡ false
 replaces_none w (One c) ids own plain (One e) = refl
 replaces_none w (One c) ids own plain (Two q u) = and_right (is_exclusive w q) false refl
 replaces_none w (Two r t) ids own plain (One e) = refl
@@ -63,7 +64,8 @@ pair_late w e r t = by w.edition
     by Second = refl
 
 -- a pair of another relationship than With is quiet
-pair_quiet : (w : WorldState) (r t : Entity) → (has_symmetric w.edition && entity_eq r WITH) ≡ false → IsTrue (has_symmetric w.edition) → IsQuiet (Two r t ∷ [])
+pair_quiet : (w : WorldState) (r t : Entity) → (has_symmetric w.edition && entity_eq r WITH) ≡ false → IsTrue (has_symmetric w.edition)
+    → IsQuiet (Two r t ∷ [])
 pair_quiet w r t apart has_it = record {
   exclusive = refl;
   acyclic = refl;
@@ -74,7 +76,8 @@ pair_quiet w r t apart has_it = record {
 }
 
 -- a pair that ties no symmetric relationship to another makes nothing clash
-pub pair_calm : (w : WorldState) (e r t : Entity) (own : List Id) → Some own ≡ option_map type_of_record (record_of w e) → IsClosure w (Two r t) (Two r t ∷ [])
+pub pair_calm : (w : WorldState) (e r t : Entity) (own : List Id) → Some own ≡ option_map type_of_record (record_of w e)
+    → IsClosure w (Two r t) (Two r t ∷ [])
     → names_living w (Two r t) ≡ true → IsSound w → ties w own r t ≡ false → has_clash (grown w e (Two r t) (Two r t ∷ [])) ≡ false
 pair_calm w e r t own owns closure lives sound free = by (has_symmetric w.edition && entity_eq r WITH) refl
   where

@@ -1,14 +1,14 @@
 -- What a pair of an exclusive relationship replaces, where that is one pair at most.
 use Rattle.eco_traits.proofs.Common.{◌≡◌, Bool, true, false, cond, not, ◌&&◌, ◌||◌, inl, inr, List, [], ◌∷◌, filter, refl, sym, ap}
-use Rattle.eco_traits.proofs.Common.{◌∙◌, subst, true≢false, IsTrue, IsFalse, Option, Some, None, is_some, option_map, if◌then◌else◌, list_any}
-use Rattle.eco_traits.proofs.Common.{and_right, or_left, Entity, ACYCLIC, EXCLUSIVE, Id, One, Two, id_cmp, id_eq, entity_eq, has_item, is_ascending, with_item}
-use Rattle.eco_traits.proofs.Common.{without_item, is_pair_of, is_replaced, is_wrong_policy, Reaches, root, next, WorldState, has, is_acyclic, is_exclusive}
-use Rattle.eco_traits.proofs.Common.{names_living, record_of, id_eq_sym, id_eq_is, id_eq_itself, same_or_apart, same_relationship, same_id, entity_eq_is}
-use Rattle.eco_traits.proofs.Common.{entity_eq_itself, BringsNone, IsSound, Replaces, without_replaced, ties, type_of_record}
+use Rattle.eco_traits.proofs.Common.{same_tests, ◌∙◌, subst, true≢false, IsTrue, IsFalse, Option, Some, None, is_some, option_map, if◌then◌else◌}
+use Rattle.eco_traits.proofs.Common.{list_any, and_right, or_left, Entity, ACYCLIC, EXCLUSIVE, Id, One, Two, id_cmp, id_eq, entity_eq, has_item, is_ascending}
+use Rattle.eco_traits.proofs.Common.{with_item, without_item, is_pair_of, is_replaced, is_wrong_policy, Reaches, root, next, WorldState, has, is_acyclic}
+use Rattle.eco_traits.proofs.Common.{is_exclusive, names_living, record_of, id_eq_sym, id_eq_is, id_eq_itself, same_or_apart, same_relationship, same_id}
+use Rattle.eco_traits.proofs.Common.{entity_eq_is, entity_eq_itself, BringsNone, IsSound, Replaces, without_replaced, ties, type_of_record}
 use Rattle.std.proofs.Common.{find}
 use Rattle.std.proofs.lemmas.Bool.{or_parts, or_right}
 use Rattle.eco_traits.proofs.Joined.{leads_to}
-use Rattle.eco_traits.proofs.Members.{only, same_truth}
+use Rattle.eco_traits.proofs.Members.{only}
 use Rattle.eco_traits.proofs.Plain.{alone_judged, comes_alone, pair_calm, pair_late}
 use Rattle.eco_traits.proofs.Walks.{has_listed, some_is}
 
@@ -67,7 +67,8 @@ all_stay p x ids h = stay ids ∙ ap (λ b. filter (λ i. not (b && p i)) ids) (
     stay [] = refl
     stay (y ∷ ys) = ap (λ zs. y ∷ zs) (stay ys)
 
-pub some_goes : (p : Id → Bool) (x : Bool) (ids left : List Id) → x ≡ true → left ≡ filter (λ i. not (p i)) ids → left ≡ filter (λ i. not (x && p i)) ids
+pub some_goes : (p : Id → Bool) (x : Bool) (ids left : List Id) → x ≡ true → left ≡ filter (λ i. not (p i)) ids
+    → left ≡ filter (λ i. not (x && p i)) ids
 some_goes p x ids left h is = is ∙ ap (λ b. filter (λ i. not (b && p i)) ids) (sym h)
 
 -- ---- walks that lead nowhere
@@ -78,7 +79,8 @@ stuck w r from none b (next member edge) =
     absurd (true≢false (sym (subst (λ x. IsTrue (has w x (Two r b))) (stuck w r from none _ member) edge) ∙ none b))
 
 -- the first pair is missing
-pub leads_nowhere : (w : WorldState) (r from goal : Entity) → (from ≡ goal → ⊥) → ((x : Entity) → IsFalse (has w from (Two r x))) → Reaches w r from goal → ⊥
+pub leads_nowhere : (w : WorldState) (r from goal : Entity) → (from ≡ goal → ⊥) → ((x : Entity) → IsFalse (has w from (Two r x)))
+    → Reaches w r from goal → ⊥
 leads_nowhere w r from goal apart none walk = apart (sym (stuck w r from none goal walk))
 
 -- no pair of the relationship is among the ids
@@ -87,7 +89,7 @@ no_pair [] r t h = refl
 no_pair (x ∷ xs) r t h =
     let parts = or_parts (is_pair_of r x) (list_any (is_pair_of r) xs) h in
     let differs : id_eq x (Two r t) ≡ false =
-    same_truth (id_eq x (Two r t)) false
+    same_tests (id_eq x (Two r t)) false
     (λ e. absurd (true≢false (sym (subst (λ y. IsTrue (is_pair_of r y)) (sym (id_eq_is x (Two r t) e)) (entity_eq_itself r)) ∙ parts.0)))
     (λ e. absurd (true≢false (sym e))) in
     ap (λ b. b || has_item id_cmp xs (Two r t)) differs ∙ no_pair xs r t parts.1
@@ -99,7 +101,7 @@ module _ (w : WorldState) (r t : Entity) (traits : List Id) (are : Some traits �
   exclusive = has_item id_cmp traits (One EXCLUSIVE)
 
   apart_tests : (a b : Entity) → (a ≡ b → ⊥) → entity_eq a b ≡ false
-  apart_tests a b n = same_truth (entity_eq a b) false (λ h. absurd (n (entity_eq_is a b h))) (λ h. absurd (true≢false (sym h)))
+  apart_tests a b n = same_tests (entity_eq a b) false (λ h. absurd (n (entity_eq_is a b h))) (λ h. absurd (true≢false (sym h)))
 
   replaced_is : (j : Id) → id_eq j (Two r t) ≡ false → (exclusive && is_pair_of r j) ≡ is_replaced w (Two r t ∷ []) j
   replaced_is (One e) other = and_right exclusive false refl

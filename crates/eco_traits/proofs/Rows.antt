@@ -1,15 +1,14 @@
 -- A world of rows: each index lives at generation 0, with its ids.
 use Rattle.eco_traits.proofs.Common.{◌≡◌, ℕ, zero, suc, ◌+◌, ◌==◌, true, false, ◌||◌, ◌↔◌, inl, inr, List, [], ◌∷◌, map, refl}
-use Rattle.eco_traits.proofs.Common.{sym, ap, ◌∙◌, true≢false, IsTrue, Option, Some, None, is_some, option_map, slice_get, if◌then◌else◌}
-use Rattle.eco_traits.proofs.Common.{list_any, find, Entity, Id, Value, id_cmp, has_item, is_pair_of, is_used, WorldState, Record, has, zeros, record_of}
-use Rattle.eco_traits.proofs.Common.{first_world, has_in, or_left, or_parts, or_right, type_of_record, keys, keys_find}
+use Rattle.eco_traits.proofs.Common.{same_tests, sym, ap, ◌∙◌, true≢false, IsTrue, Option, Some, None, is_some, option_map, slice_get}
+use Rattle.eco_traits.proofs.Common.{if◌then◌else◌, list_any, find, Entity, Id, Value, id_cmp, has_item, is_pair_of, is_used, WorldState, Record, has}
+use Rattle.eco_traits.proofs.Common.{zeros, record_of, first_world, has_in, or_left, or_parts, or_right, type_of_record, keys, keys_find}
 use Rattle.std.proofs.Common.{Bor}
 use Rattle.std.specs.Option.{option_copied}
 use Rattle.std.specs.Slice.{IsItemAt}
 use Rattle.std.proofs.lemmas.Option.{slice_get_past, slice_get-get_or}
 use Rattle.std.proofs.lemmas.Bool.Decides.{Decides-eqb}
 use Rattle.eco_ids.specs.Indices.{IndexState, Living, living_from, record_in}
-use Rattle.eco_traits.proofs.Members.{same_truth}
 
 abbrev pub with_ids : List Id → Record
 with_ids ids = record { name = None; arity = None; held = map (λ i. (i, zeros)) ids }
@@ -39,11 +38,12 @@ pub found : {X : Type 0} (xs : List X) (i : ℕ) (o : Option (Bor X)) → IsItem
 found xs i None at = sym (slice_get_past xs i at.3)
 found xs i (Some x) at = ap Some at.1 ∙ sym (slice_get-get_or xs i x.now at.3.0)
 
-pub type_at : (rows : List (List Id)) (e : Entity) → e.generation ≡ 0 → slice_get rows e.index ≡ option_map type_of_record (record_of (rows_world rows) e)
+pub type_at : (rows : List (List Id)) (e : Entity) → e.generation ≡ 0
+    → slice_get rows e.index ≡ option_map type_of_record (record_of (rows_world rows) e)
 type_at rows e h = row_at rows e.index ∙ ap (λ g. option_map type_of_record (record_in (slice_get (row_states rows) e.index) g)) (sym h)
 
 other : (g : ℕ) → (g ≡ 0 → ⊥) → (g == 0) ≡ false
-other g h = same_truth (g == 0) false (λ e. absurd (h ((Decides-eqb g 0).0 e))) (λ e. absurd (true≢false (sym e)))
+other g h = same_tests (g == 0) false (λ e. absurd (h ((Decides-eqb g 0).0 e))) (λ e. absurd (true≢false (sym e)))
 
 pub no_type_at : (rows : List (List Id)) (e : Entity) → (e.generation ≡ 0 → ⊥) → None ≡ option_map type_of_record (record_of (rows_world rows) e)
 no_type_at rows e h = no_row_at rows e.index e.generation (other e.generation h)

@@ -9,7 +9,8 @@ module _ (w : WorldState) (e : Entity) (i : Id) (own : List Id) (lives : names_l
   own_is = ap (λ o. unwrap_or o []) owns
 
   -- it comes alone
-  pub plain_target : (ids : List Id) → has w e i ≡ false → IsSound w → AreTraitsOf w i ids → IsPlain w.edition i ids → IsTrue (is_ascending id_cmp own)
+  pub plain_target : (ids : List Id) → has w e i ≡ false → IsSound w → AreTraitsOf w i ids → IsPlain w.edition i ids
+      → IsTrue (is_ascending id_cmp own)
       → FindsTarget w e i (Ok With)
   plain_target ids absent sound traits plain up =
       subst (λ all. AddLeadsTo w e i (Ok (with_item id_cmp all i))) own_is

@@ -1,19 +1,19 @@
 -- What stands against a closure.
 use Rattle.eco_traits.proofs.Common.{common_steps, ◌≡◌, ℕ, zero, suc, ◌+◌, ◌<◌, false, ◌||◌, ◌⊎◌, inl, inr, List, [], ◌∷◌}
-use Rattle.eco_traits.proofs.Common.{length, take, get_or, refl, sym, ap, ◌∙◌, subst, true≢false, IsTrue, ◌↔◌, map, unwrap_or, Ok, Err, Bool}
-use Rattle.eco_traits.proofs.Common.{true, cond, MatchBool, Option, Some, None, option_map, is_lt, arith, take_more, list_any, Entity, Id, Two, Refusal, Cycle}
-use Rattle.eco_traits.proofs.Common.{InUse, NotAPolicy, TraitClash, late_traits, has_clash, is_with, would_clash, id_cmp, id_eq, entity_cmp, has_item}
-use Rattle.eco_traits.proofs.Common.{is_ascending, IsClosure, IsFirstCycle, Judges, grown, is_late, is_used, is_wrong_policy, Value, WITH, WorldState, Record}
-use Rattle.eco_traits.proofs.Common.{has, held_by, is_alive, living, names_living, record_of, entry_of, some_of, or_left, same_relationship, all_item}
-use Rattle.eco_traits.proofs.Common.{id_cmp_total, same_id, first, second, or_parts, or_right, id_eq_is, entity_cmp_total, ClosesBy, FindsType, IsClosedBy}
-use Rattle.eco_traits.proofs.Common.{IsSound, AddLeadsTo, extended_by, left_by, type_of_record}
+use Rattle.eco_traits.proofs.Common.{same_tests, length, take, get_or, refl, sym, ap, ◌∙◌, subst, true≢false, IsTrue, ◌↔◌, map, unwrap_or, Ok}
+use Rattle.eco_traits.proofs.Common.{Err, Bool, true, cond, MatchBool, Option, Some, None, option_map, is_lt, arith, take_more, list_any, Entity, Id, Two}
+use Rattle.eco_traits.proofs.Common.{Refusal, Cycle, InUse, NotAPolicy, TraitClash, late_traits, has_clash, is_with, would_clash, id_cmp, id_eq, entity_cmp}
+use Rattle.eco_traits.proofs.Common.{has_item, is_ascending, IsClosure, IsFirstCycle, Judges, grown, is_late, is_used, is_wrong_policy, Value, WITH}
+use Rattle.eco_traits.proofs.Common.{WorldState, Record, has, held_by, is_alive, living, names_living, record_of, entry_of, some_of, or_left}
+use Rattle.eco_traits.proofs.Common.{same_relationship, all_item, id_cmp_total, same_id, first, second, or_parts, or_right, id_eq_is, entity_cmp_total}
+use Rattle.eco_traits.proofs.Common.{ClosesBy, FindsType, IsClosedBy, IsSound, AddLeadsTo, extended_by, left_by, type_of_record}
 use Rattle.std.specs.Option.{option_or}
 use Rattle.std.specs.Cmp.{tied_itself}
 use Rattle.std.specs.Ordering.{is_le}
 use Rattle.eco_ids.specs.Outcome.{is_out_of_memory}
 use Rattle.eco_ids.proofs.Clashes.{clash_is_local}
 use Rattle.eco_ids.proofs.Mirrors.{living_some, some_living}
-use Rattle.eco_traits.proofs.Members.{only, has_get, has_append, same_truth}
+use Rattle.eco_traits.proofs.Members.{only, has_get, has_append}
 use Rattle.eco_traits.proofs.Joined.{lacked, leads_to, some_record}
 
 -- ---- ascending ids
@@ -87,7 +87,8 @@ abbrev pub verdict_of : Bool → Option Entity → Option Refusal
 verdict_of clash o = cond clash (option_or (option_map Cycle o) (Some TraitClash)) (option_map Cycle o)
 
 module _ (w : WorldState) (e : Entity) (s : List Id) (after : WorldState) where
-  go : (v : Option Refusal) (b c : Bool) → b ≡ false → (c ≡ false → (o : Option Entity) × IsFirstCycle w e s o × (v ≡ verdict_of (has_clash after) o)) →
+  go : (v : Option Refusal) (b c : Bool) → b ≡ false
+      → (c ≡ false → (o : Option Entity) × IsFirstCycle w e s o × (v ≡ verdict_of (has_clash after) o)) →
       (c ≡ true → v ≡ Some InUse) →
       MatchBool b (v ≡ Some NotAPolicy) (MatchBool c (v ≡ Some InUse) ((o : Option Entity) × IsFirstCycle w e s o × (v ≡ verdict_of (has_clash after) o)))
   go v true c p q r = absurd (true≢false p)
@@ -102,7 +103,8 @@ module _ (w : WorldState) (e : Entity) (s : List Id) (after : WorldState) where
       (λ _. (o, first, is ∙ ap (λ b. verdict_of b o) (sym same))) (λ k. absurd (true≢false (sym k ∙ late)))
 
 -- what clashes in the world that it grows to is seen at a look
-pub clash_seen : (w : WorldState) (e : Entity) (i : Id) (s : List Id) → IsTrue (is_alive w e) → IsTrue (names_living w i) → IsClosure w i s → IsSound w →
+pub clash_seen : (w : WorldState) (e : Entity) (i : Id) (s : List Id) → IsTrue (is_alive w e) → IsTrue (names_living w i) → IsClosure w i s
+    → IsSound w →
     has_clash (grown w e i s) ≡ would_clash w e s
 clash_seen w e i s alive named closure sound =
     let d = some_of (record_of w e) alive in clash_is_local w e i s d.0 d.1 closure named sound
@@ -122,7 +124,7 @@ with_held w e own owns =
 -- the target of some pair of With
 pub target_any : (w : WorldState) (e : Entity) (b : Bool) → IsTrue b ↔ ((holder : Entity) × IsTrue (has w holder (Two WITH e))) →
     b ≡ list_any (λ p. has w p.0 (Two WITH e)) (living w)
-target_any w e b exact = same_truth b (list_any (λ p. has w p.0 (Two WITH e)) (living w))
+target_any w e b exact = same_tests b (list_any (λ p. has w p.0 (Two WITH e)) (living w))
     (λ h.
     let x = exact.0 h in
     let d = entry_of (record_of w x.0) (Two WITH e) x.1 in
@@ -130,7 +132,8 @@ target_any w e b exact = same_truth b (list_any (λ p. has w p.0 (Two WITH e)) (
     (λ h. let x = living_some (λ p. has w p.0 (Two WITH e)) w h in exact.1 (x.0, x.3))
 
 -- what stands against the closure is the answer
-pub judged_refuses : (w : WorldState) (e : Entity) (i : Id) (s : List Id) (why : Refusal) → names_living w i ≡ true → has w e i ≡ false → IsClosure w i s
+pub judged_refuses : (w : WorldState) (e : Entity) (i : Id) (s : List Id) (why : Refusal) → names_living w i ≡ true → has w e i ≡ false
+    → IsClosure w i s
     → Judges w e s (grown w e i s) (Some why) → FindsType w e i (Err why)
 judged_refuses w e i s why lives absent closure judges =
     elim (is_out_of_memory {A = List Id} (Err why)) as (λ b. MatchBool b (IsTrue (names_living w i)) (AddLeadsTo w e i (Err why))) [
@@ -139,7 +142,8 @@ judged_refuses w e i s why lives absent closure judges =
     ]
 
 -- a closure that nothing stands against leads to the type that has it
-pub judged_leads : (w : WorldState) (e : Entity) (i : Id) (s own all : List Id) (verdict : Option Refusal) → names_living w i ≡ true → has w e i ≡ false →
+pub judged_leads : (w : WorldState) (e : Entity) (i : Id) (s own all : List Id) (verdict : Option Refusal) → names_living w i ≡ true
+    → has w e i ≡ false →
     IsClosure w i s → Judges w e s (grown w e i s) verdict → verdict ≡ None → Some own ≡ option_map type_of_record (record_of w e) →
     IsTrue (is_ascending id_cmp own) → all ≡ extended_by w s own → AddLeadsTo w e i (Ok all)
 judged_leads w e i s own all verdict lives absent closure judges none owns up is_all =

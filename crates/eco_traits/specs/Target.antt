@@ -1,6 +1,6 @@
 -- The type that an add leads to.
-use Rattle.std.specs.Prelude.{Bool, true, [], unwrap_or, ◌≡◌, ◌↔◌, ◌||◌, ◌&&◌, not, List, map, filter, fold, option_map, Option, Some, None, Result, Ok, Err}
-use Rattle.std.specs.Prelude.{IsTrue, IsFalse, false, MatchBool, MatchOption, if◌then◌else◌}
+use Rattle.std.specs.Prelude.{Bool, true, [], unwrap_or, ◌≡◌, ◌↔◌, ◌||◌, ◌&&◌, not, List, map, filter, fold, option_map, Option, Some}
+use Rattle.std.specs.Prelude.{None, Result, Ok, Err, IsTrue, IsFalse, false, MatchBool, MatchOption, if◌then◌else◌}
 use Rattle.eco_ids.specs.declared.edition.Edition.{Edition}
 use Rattle.eco_ids.specs.declared.entity.Entity.{Entity}
 use Rattle.eco_ids.specs.declared.entity.TheConstants.{ACYCLIC, EXCLUSIVE, SYMMETRIC, WITH}

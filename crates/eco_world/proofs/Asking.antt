@@ -15,7 +15,8 @@ pair_matches : (r : Entity) (i : Id) → pattern_matches (pattern.Two (Is r) Any
 pair_matches r (One e) = refl
 pair_matches r (Two q t) = and-true (entity_eq r q)
 
-pair_held : (r : Entity) (held : Held) → list_any (pattern_matches (pattern.Two (Is r) Any)) (keys held) ≡ list_any (λ (q : Id × Value). is_pair_of r q.0) held
+pair_held : (r : Entity) (held : Held)
+    → list_any (pattern_matches (pattern.Two (Is r) Any)) (keys held) ≡ list_any (λ (q : Id × Value). is_pair_of r q.0) held
 pair_held r [] = refl
 pair_held r (p ∷ held) = ap (λ b. b || list_any (pattern_matches (pattern.Two (Is r) Any)) (keys held)) (pair_matches r p.0)
     ∙ ap (λ b. is_pair_of r p.0 || b) (pair_held r held)

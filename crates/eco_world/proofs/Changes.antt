@@ -9,7 +9,8 @@ use Rattle.eco_ids.proofs.Lists.{set_own}
 use Rattle.eco_world.proofs.Held.{Held, keys, none_written, retyped_without, written_is}
 
 -- what holds of either state that a call may leave, as it is seen, holds of the one that it left
-pub by_result : {A B S X : Type 0} (P : X → Type 0) (seen : S → X) (r : Result A B) (old new : S) (x : X) → OnOk r (seen new ≡ x) → OnErr r (new ≡ old) →
+pub by_result : {A B S X : Type 0} (P : X → Type 0) (seen : S → X) (r : Result A B) (old new : S) (x : X) → OnOk r (seen new ≡ x)
+    → OnErr r (new ≡ old) →
     P x → P (seen old) → P (seen new)
 by_result P seen (Ok a) old new x ok err done undone = subst P (sym ok) done
 by_result P seen (Err b) old new x ok err done undone = subst (λ s. P (seen s)) (sym err) undone
@@ -82,7 +83,8 @@ module _ (w : WorldState) (e : Entity) where
     typed_without i ids is =
         changed_alike (with_type ids) (keeping (λ j. id_eq j i)) (λ d at.
         ap (λ held. record d { held = held })
-        (ap (λ js. (with_type js d).held) (is ∙ ap (λ held. without_item id_cmp (keys held) i) (held_at d at)) ∙ retyped_without d.held i (sorted_at d at)))
+        (ap (λ js. (with_type js d).held) (is ∙ ap (λ held. without_item id_cmp (keys held) i) (held_at d at))
+        ∙ retyped_without d.held i (sorted_at d at)))
         ∙ sym (without_one w e (λ j. id_eq j i))
 
     written_value : (i : Id) (v : Value) → has w e i ≡ true → changed w e (record_with_written i v) ≡ changed w e (with_value i v)
@@ -105,7 +107,8 @@ module _ (w : WorldState) (e : Entity) where
     written_there i v false is = nothing_written i v (sym is)
 
     -- so the world is lawful where it is with the value
-    pub written_lawful : (i : Id) (v : Value) → (has w e i ≡ true → IsLawful (changed w e (with_value i v))) → IsLawful (changed w e (record_with_written i v))
+    pub written_lawful : (i : Id) (v : Value) → (has w e i ≡ true → IsLawful (changed w e (with_value i v)))
+        → IsLawful (changed w e (record_with_written i v))
     written_lawful i v then_lawful = by (has w e i) refl
       where
         by : (b : Bool) → has w e i ≡ b → IsLawful (changed w e (record_with_written i v))
@@ -121,7 +124,8 @@ no_ids w e alive none = by (record_of w e) alive none
     nothing [] h = refl
     nothing (x ∷ held) h = absurd (true≢false h)
 
-    by : (o : Option Record) → is_some o ≡ true → list_any (λ (h : Id × Value). true) (unwrap_or (option_map (λ (r : Record). r.held) o) []) ≡ false →
+    by : (o : Option Record) → is_some o ≡ true
+        → list_any (λ (h : Id × Value). true) (unwrap_or (option_map (λ (r : Record). r.held) o) []) ≡ false →
         option_map record_ids o ≡ Some []
     by None lives h = absurd (true≢false (sym lives))
     by (Some r) lives h = nothing r.held h

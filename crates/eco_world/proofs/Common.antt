@@ -25,7 +25,7 @@ pub use Rattle.eco_answers.specs.Answers.{asked}
 pub use Rattle.eco_ids.proofs.Ascending.{ascending_with, both, first, first_T, second, second_T, with_present}
 pub use Rattle.eco_ids.proofs.Closures.{zero_sorted, zeros_have}
 pub use Rattle.eco_ids.proofs.Exact.{id_eq_sym, keys_ascending, keys_find, keys_kept, keys_zeros, zero_find}
-pub use Rattle.eco_ids.proofs.Facts.{any_is, id_eq_is, id_eq_itself, not_both, not_ok, not_true, or_left, or_parts, or_right, same_or_apart}
+pub use Rattle.eco_ids.proofs.Facts.{any_is, id_eq_is, id_eq_itself, not_both, not_ok, not_true, or_left, or_parts, or_right, same_or_apart, same_tests}
 pub use Rattle.eco_ids.proofs.IdOrder.{id_cmp_total, same_id}
 pub use Rattle.eco_ids.proofs.Keeps.{Named, entry_of, fits_still, has_in, some_of}
 pub use Rattle.eco_ids.proofs.Losses.{keeps_all, without_from_all, without_one}

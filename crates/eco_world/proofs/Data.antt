@@ -73,7 +73,8 @@ zeros_only w lawful e i v no_data = by (record_of w e) refl
     no_arity None h = refl
     no_arity (Some n) h = absurd (true≢false h)
 
-    by : (o : Option Record) → record_of w e ≡ o → find id_cmp i (unwrap_or (option_map (λ (r : Record). r.held) o) []) ≡ Some v → is_zero_past 0 v ≡ true
+    by : (o : Option Record) → record_of w e ≡ o → find id_cmp i (unwrap_or (option_map (λ (r : Record). r.held) o) []) ≡ Some v
+        → is_zero_past 0 v ≡ true
     by None at found = absurd (none-some v found)
     by (Some r) at found =
         subst (λ n. is_zero_past n v ≡ true) (no_arity (arity w i) no_data)
@@ -84,7 +85,8 @@ no_value : (w : WorldState) (e : Entity) (i : Id) → is_some (arity w i) ≡ fa
 no_value w e i no_data = sym (ap (λ b. if b then find id_cmp i (held_by w e) else None) no_data)
 
 -- who lives stands where the store has it
-pub stands_in : {X : Type 0} (o : Option X) (P : Type 0) (A B C : X → Type 0) → ((x : X) → A x → B x → C x) → MatchOption o P A → IfSome o B → MatchOption o P C
+pub stands_in : {X : Type 0} (o : Option X) (P : Type 0) (A B C : X → Type 0) → ((x : X) → A x → B x → C x) → MatchOption o P A
+    → IfSome o B → MatchOption o P C
 stands_in None P A B C each none some = none
 stands_in (Some x) P A B C each a b = each x a b
 

@@ -10,7 +10,8 @@ use Rattle.eco_ids.proofs.LivingLists.{has_alive}
 use Rattle.eco_world.proofs.Steps.{meets_as}
 
 -- the same roots in other words take the same
-doomed_alike : (w : WorldState) (P Q : Entity → Type 0) (members : List Entity) → ((e : Entity) → P e ↔ Q e) → IsDoomed w P members → IsDoomed w Q members
+doomed_alike : (w : WorldState) (P Q : Entity → Type 0) (members : List Entity) → ((e : Entity) → P e ↔ Q e) → IsDoomed w P members
+    → IsDoomed w Q members
 doomed_alike w P Q members same d = record {
   ascending = d.ascending;
   exact = λ e. (

@@ -23,7 +23,8 @@ keeps : {A : Type 0} (q : A → Bool) (xs : List A) (x : A) → Contains xs x �
 keeps q [] x h p = absurd (no_element x h)
 keeps q (y ∷ ys) x h p = by (q y) refl (element_cases y x ys h) (λ c. keeps q ys x c p)
   where
-    by : (b : Bool) → q y ≡ b → (y ≡ x) ⊎ Contains ys x → (Contains ys x → Contains (filter q ys) x) → Contains (cond b (y ∷ filter q ys) (filter q ys)) x
+    by : (b : Bool) → q y ≡ b → (y ≡ x) ⊎ Contains ys x → (Contains ys x → Contains (filter q ys) x)
+        → Contains (cond b (y ∷ filter q ys) (filter q ys)) x
     by true is (inl same) go = subst (λ z. Contains (y ∷ filter q ys) z) same (here y (filter q ys))
     by true is (inr c) go = there y x (filter q ys) (go c)
     by false is (inl same) go = absurd (true≢false (sym p ∙ ap q (sym same) ∙ is))
@@ -59,7 +60,8 @@ at_end : {A : Type 0} (xs : List A) (x : A) → slice_get (xs ++ x ∷ []) (leng
 at_end [] x = refl
 at_end (y ∷ ys) x = at_end ys x
 
-before_end : {A : Type 0} (P : A → Type 0) (xs : List A) (x : A) (n : ℕ) → MatchOption (slice_get xs n) ⊥ P → MatchOption (slice_get (xs ++ x ∷ []) n) ⊥ P
+before_end : {A : Type 0} (P : A → Type 0) (xs : List A) (x : A) (n : ℕ) → MatchOption (slice_get xs n) ⊥ P
+    → MatchOption (slice_get (xs ++ x ∷ []) n) ⊥ P
 before_end P [] x n h = absurd h
 before_end P (y ∷ ys) x zero h = h
 before_end P (y ∷ ys) x (suc n) h = before_end P ys x n h
@@ -71,7 +73,8 @@ number_of (Err why) = 0
 pub added : AddedQueriesAreFound
 added w slots id new h =
     let number : id.0 ≡ length w.queries = ap number_of h.0 in
-    let at : slice_get new.queries id.0 ≡ Some slots = ap (λ (v : WorldState). slice_get v.queries id.0) h.1 ∙ ap (slice_get (w.queries ++ slots ∷ [])) number
+    let at : slice_get new.queries id.0 ≡ Some slots = ap (λ (v : WorldState). slice_get v.queries id.0) h.1
+    ∙ ap (slice_get (w.queries ++ slots ∷ [])) number
     ∙ at_end w.queries slots in
     record {
       here = subst (λ o. MatchOption o ⊥ (λ own. own ≡ slots)) (sym at) refl;
@@ -100,7 +103,8 @@ absent w n may_want = (
     none None h = tt
     none (Some slots) h = not_wanting h.0
 
-pub wanting : (w : WorldState) (n : ℕ) (may_want : List QueryTerm → Bool) (why : Refusal) → (why ≡ NoSuchQuery → ⊥) → RefusesQuery w n may_want why
+pub wanting : (w : WorldState) (n : ℕ) (may_want : List QueryTerm → Bool) (why : Refusal) → (why ≡ NoSuchQuery → ⊥)
+    → RefusesQuery w n may_want why
     → (why ≡ OutOfMemory) × OfQuery w n (λ slots. IsTrue (may_want slots))
 wanting w n may_want why other = by (slice_get w.queries n)
   where
@@ -122,7 +126,8 @@ items_of (Err why) = []
 pub merge_refused : RefusedMergesChangeNothing
 merge_refused w n commands why new = by (may_admit (entities w) n) refl
   where
-    by : (b : Bool) → may_admit (entities w) n ≡ b → MatchBool b (RunsAdmitted w n commands (Err why) new) (Refuses {A = Outcomes} NoMoreIds w (Err why) new)
+    by : (b : Bool) → may_admit (entities w) n ≡ b
+        → MatchBool b (RunsAdmitted w n commands (Err why) new) (Refuses {A = Outcomes} NoMoreIds w (Err why) new)
         → (why ≡ NoMoreIds) × (new ≡ w) × IsFalse (may_merge w n commands)
     by true is h = absurd (not_ok (sym h.1))
     by false is h = (ap (why_of why) h.0, h.1, ap (λ b. b && (nat_lt 0 n || has_commands commands)) is)

@@ -89,7 +89,8 @@ record IsFound (w : WorldState) (e : Entity) (i : Id) (ids : List Id) : Type 0 w
 same_ok : (x y : List Id) → (let r : Result (List Id) Refusal = Ok x in r ≡ Ok y) → x ≡ y
 same_ok x y h = cc
 
-found : (w : WorldState) (e : Entity) (i : Id) (ids : List Id) → names_living w i ≡ true → has w e i ≡ false → FindsType w e i (Ok ids) → IsFound w e i ids
+found : (w : WorldState) (e : Entity) (i : Id) (ids : List Id) → names_living w i ≡ true → has w e i ≡ false → FindsType w e i (Ok ids)
+    → IsFound w e i ids
 found w e i ids living absent finds = by_verdict extends.0 extends.1 extends.2 extends.3 extends.4
   where
     extends : ExtendsTo w e i (Ok ids)
@@ -160,7 +161,8 @@ pub record IsGrown (w : WorldState) (e : Entity) (i : Id) (new : WorldState) : T
 own_type : (w : WorldState) (e : Entity) → unwrap_or (type_of_entity w e) [] ≡ type_of w e
 own_type w e = by (record_of w e)
   where
-    by : (o : Option Record) → unwrap_or (option_map type_of_record o) [] ≡ map (λ (p : Id × Value). p.0) (unwrap_or (option_map (λ (r : Record). r.held) o) [])
+    by : (o : Option Record)
+        → unwrap_or (option_map type_of_record o) [] ≡ map (λ (p : Id × Value). p.0) (unwrap_or (option_map (λ (r : Record). r.held) o) [])
     by None = refl
     by (Some d) = refl
 
@@ -201,7 +203,8 @@ module _ (w : WorldState) (e : Entity) (i : Id) (alive : is_alive w e ≡ true) 
 -- ---- a set
 
 -- where nothing stands against a set and the id isn't there, the add that it begins with is an extension
-pub extended : (w : WorldState) (e : Entity) (i : Id) (v : Value) → MaySet w e i v → has w e i ≡ false → (r : Result (Unit {0}) Refusal) (new : WorldState) →
+pub extended : (w : WorldState) (e : Entity) (i : Id) (v : Value) → MaySet w e i v → has w e i ≡ false
+    → (r : Result (Unit {0}) Refusal) (new : WorldState) →
     Meets (Adds w e i) (step.may_add w e i) w r new → Meets (Extends w e i unchanged) true w r new
 extended w e i v may_set = extends_adds w e i may_set.alive may_set.free may_set.living
 
@@ -238,7 +241,8 @@ module _ (w : WorldState) (e : Entity) (i : Id) (v : Value) (may_set : MaySet w 
       (λ x. sets_by absent (Err why) new (refused x.0 x.1 x.2 x.3 x.4))
     where
       refused : (s : List Id) → IsClosure w i s → (verdict : Option Refusal) → Judges w e s (grown w e i s) verdict →
-          MatchOption verdict (Answers {A = Unit {0}} tt (changed (grown w e i s) e unchanged) (Err why) new) (λ y. Refuses {A = Unit {0}} y w (Err why) new) →
+          MatchOption verdict (Answers {A = Unit {0}} tt (changed (grown w e i s) e unchanged) (Err why) new)
+          (λ y. Refuses {A = Unit {0}} y w (Err why) new) →
           Extends w e i (with_value i v) (Err why) new
       refused s closure None judges m = absurd (not_ok (sym m.0))
       refused s closure (Some y) judges m = (s, closure, Some y, judges, m)

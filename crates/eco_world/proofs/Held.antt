@@ -32,12 +32,14 @@ retyped_is [] old up values = refl
 retyped_is (p ∷ new) old up values =
     ap (λ v. (p.0, v) ∷ retyped (keys new) old) (values p.0 p.1 (ap (λ b. cond b (Some p.1) (find id_cmp p.0 new)) (id_eq_itself p.0)))
     ∙ ap (λ held. p ∷ held)
-    (retyped_is new old (second_T _ _ up) (λ i v at. values i v (ap (λ b. cond b (Some p.1) (find id_cmp i new)) (apart i p new v (first_T _ _ up) at) ∙ at)))
+    (retyped_is new old (second_T _ _ up)
+    (λ i v at. values i v (ap (λ b. cond b (Some p.1) (find id_cmp i new)) (apart i p new v (first_T _ _ up) at) ∙ at)))
 
 pub alike : (test : Id → Bool) (i j : Id) → id_cmp i j ≡ Equal → test j ≡ test i
 alike test i j e = ap test (sym (same_id i j e))
 
-pub kept_find : (test : Id → Bool) (held : Held) (i : Id) (v : Value) → find id_cmp i (where_key id_cmp test held) ≡ Some v → find id_cmp i held ≡ Some v
+pub kept_find : (test : Id → Bool) (held : Held) (i : Id) (v : Value) → find id_cmp i (where_key id_cmp test held) ≡ Some v
+    → find id_cmp i held ≡ Some v
 kept_find test held i v at = go (test i) (sym (find-where_key id_cmp test i (alike test i) held) ∙ at)
   where
     go : (b : Bool) → cond b (find id_cmp i held) None ≡ Some v → find id_cmp i held ≡ Some v
@@ -63,7 +65,8 @@ none_written (p ∷ held) i v none =
     ] refl none
 
 -- where the id is there, its value is written in its place
-pub written_is : (held : Held) (i : Id) (v : Value) → T (is_sorted id_cmp held) → is_some (find id_cmp i held) ≡ true → with_held held i v ≡ put id_cmp i v held
+pub written_is : (held : Held) (i : Id) (v : Value) → T (is_sorted id_cmp held) → is_some (find id_cmp i held) ≡ true
+    → with_held held i v ≡ put id_cmp i v held
 written_is [] i v up there = absurd (true≢false (sym there))
 written_is (p ∷ held) i v up there =
     elim (id_cmp i p.0) as (λ o. id_cmp i p.0 ≡ o → is_some (cond (is_eq o) (Some p.1) (find id_cmp i held)) ≡ true →

@@ -152,7 +152,8 @@ module _ (x : ListedTable) where
       ]
 
   -- where its type is there, nothing changes
-  put_again : (ts : List ListedTable) (t : ListedTable) → IsTrue (is_ascending by_type ts) → Contains ts t → t.ids ≡ x.ids → with_item by_type ts x ≡ ts
+  put_again : (ts : List ListedTable) (t : ListedTable) → IsTrue (is_ascending by_type ts) → Contains ts t → t.ids ≡ x.ids
+      → with_item by_type ts x ≡ ts
   put_again ts t up p same = with_present by_type_total ts x up (has ts p)
     where
       has : (ys : List ListedTable) → Contains ys t → has_item by_type ys x ≡ true
@@ -195,7 +196,8 @@ grown_there ts (y ∷ ys) x p = elim (element_cases y x ys p) as (λ _. (t : Lis
 ]
 
 grown_filtered : (q : ListedTable → Bool) (ts xs : List ListedTable) → IsTrue (is_ascending by_type ts)
-    → ((x : ListedTable) → Contains xs x → q x ≡ true → (t : ListedTable) × Contains ts t × (t.ids ≡ x.ids)) → filter q (grown ts xs) ≡ filter q ts
+    → ((x : ListedTable) → Contains xs x → q x ≡ true → (t : ListedTable) × Contains ts t × (t.ids ≡ x.ids))
+    → filter q (grown ts xs) ≡ filter q ts
 grown_filtered q ts [] up had = refl
 grown_filtered q ts (x ∷ xs) up had =
     grown_filtered q (with_item by_type ts x) xs (ascending_with by_type_total ts x up)

@@ -52,7 +52,8 @@ stands_held : (o : Option Record) (t : TableState) (row : ℕ) (r : TableRow) �
 stands_held None t row r h at = absurd h
 stands_held (Some k) t row r h at = h.held r ∙ ap (λ (x : TableRow). x.held) (get_or_from_slice_get t.rows row r r at)
 
-rows_show : (w : WorldState) (i : Id) (rows : List TableRow) → ((k : ℕ) (r : TableRow) → slice_get rows k ≡ Some r → held_by w r.entity ≡ r.held) →
+rows_show : (w : WorldState) (i : Id) (rows : List TableRow)
+    → ((k : ℕ) (r : TableRow) → slice_get rows k ≡ Some r → held_by w r.entity ≡ r.held) →
     map (λ (r : TableRow). value_in r.held i) rows ≡ map (λ e. value_in (held_by w e) i) (entities_of rows)
 rows_show w i [] each = refl
 rows_show w i (r ∷ rows) each =
@@ -90,9 +91,11 @@ module _ (w : WorldState) (slots : List (Option TableState)) (shown : IsShown (e
         (λ k r at. stands_held (record_of w r.entity) (table_in slots stands.0) k r (shown.rows stands.0 k r at) at)
         ∙ ap (λ (x : Lent). map (λ e. value_in (held_by w e) i) x.0.entities) stands.1;
     data_ids = λ i.
-        subst (λ (x : Lent). (is_some (arity x.2 i) && nat_lt 0 (unwrap_or (width_in x.1 i) 0)) ≡ (has_item id_cmp x.0.ids i && is_some (arity w i))) stands.1
+        subst (λ (x : Lent). (is_some (arity x.2 i) && nat_lt 0 (unwrap_or (width_in x.1 i) 0))
+        ≡ (has_item id_cmp x.0.ids i && is_some (arity w i))) stands.1
         (data_lent w lawful (table_in slots stands.0) (kept stands.0)
-        (subst (λ (x : TableState). (j : Id) → has_item id_cmp x.ids j ≡ true → IsSome (width_in x j)) (ap (λ (x : Lent). x.1) (sym stands.1)) whole) i);
+        (subst (λ (x : TableState). (j : Id) → has_item id_cmp x.ids j ≡ true → IsSome (width_in x j))
+        (ap (λ (x : Lent). x.1) (sym stands.1)) whole) i);
   }
 
   -- whatever order the tables are brought into

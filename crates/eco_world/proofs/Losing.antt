@@ -30,7 +30,8 @@ module _ (w : WorldState) (goes : Entity → Id → Bool) (x : Entity) (j : Id) 
           ∙ absorbed (goes m.0 m.1) (goes x j) (λ h. mirror p.0 p.1 p.2 p.3 (subst (λ (y : Entity × Id). IsTrue (goes y.0 y.1)) p.4 h))
 
 -- whoever has a pair of a symmetric relationship stands in the mirror's
-pub mirrored : (w : WorldState) → IsLawful w → (r a b : Entity) → IsTrue (is_symmetric w r) → IsTrue (has w a (ids.Two r b)) → IsTrue (has w b (ids.Two r a))
+pub mirrored : (w : WorldState) → IsLawful w → (r a b : Entity) → IsTrue (is_symmetric w r) → IsTrue (has w a (ids.Two r b))
+    → IsTrue (has w b (ids.Two r a))
 mirrored w lawful r a b symmetric there = (mirrored_of w lawful (first (has_symmetric w.edition) _ symmetric)).mirrors r a b symmetric there
 
 -- ---- one id of one entity
@@ -83,7 +84,8 @@ more_holders w e (k ∷ js) j = by (mirror_of w e k) (more_holders w e js j)
 
 -- one more id
 pub next_holder : (w : WorldState) (e : Entity) (js : List Id) (k : ℕ) (d : Id) (old new : List Entity) → k < length js
-    → new ≡ old ++ with_holder (mirror_of w e (get_or js k d)) [] → old ≡ e ∷ mirror_holders w e (take k js) → new ≡ e ∷ mirror_holders w e (take (k + 1) js)
+    → new ≡ old ++ with_holder (mirror_of w e (get_or js k d)) [] → old ≡ e ∷ mirror_holders w e (take k js)
+    → new ≡ e ∷ mirror_holders w e (take (k + 1) js)
 next_holder w e js k d old new below more was =
     more ∙ ap (λ xs. xs ++ with_holder (mirror_of w e (get_or js k d)) []) was
     ∙ ap (λ xs. e ∷ xs) (sym (more_holders w e (take k js) (get_or js k d)))

@@ -1,17 +1,14 @@
 -- A pair of a symmetric relationship comes to both of its entities, or goes from both, by a step of each.
-use Rattle.eco_world.proofs.Common.{arith, ◌≡◌, Bool, true, false, cond, Option, Some, None, IsTrue, refl, sym, ap, ◌∙◌, subst, true≢false, inl}
-use Rattle.eco_world.proofs.Common.{inr, same_Some, Entity, Id, Two, IsLawful, keeping, nobody, without, at_mirror, goes_too, mirror_of, entity_eq, id_cmp}
-use Rattle.eco_world.proofs.Common.{id_eq, with_item, without_item, changed, with_mirror, Record, WorldState, has, is_alive, names_living, record_of, both}
-use Rattle.eco_world.proofs.Common.{first, second, id_eq_is, id_eq_itself, not_both, or_left, or_parts, or_right, mirror_is, mirror_parts, entity_eq_is}
+use Rattle.eco_world.proofs.Common.{◌≡◌, Bool, true, false, cond, Option, Some, None, IsTrue, refl, sym, ap, ◌∙◌, subst, true≢false, inl}
+use Rattle.eco_world.proofs.Common.{same_tests, inr, same_Some, Entity, Id, Two, IsLawful, keeping, nobody, without, at_mirror, goes_too, mirror_of, entity_eq}
+use Rattle.eco_world.proofs.Common.{id_cmp, id_eq, with_item, without_item, changed, with_mirror, Record, WorldState, has, is_alive, names_living, record_of}
+use Rattle.eco_world.proofs.Common.{both, first, second, id_eq_is, id_eq_itself, not_both, or_left, or_parts, or_right, mirror_is, mirror_parts, entity_eq_is}
 use Rattle.eco_world.proofs.Common.{entity_eq_itself, changed_apart, record_ids, with_toggled, with_type, takes_id, type_of}
 use Rattle.eco_ids.proofs.Gains.{same_relationship}
 use Rattle.eco_world.proofs.Changes.{changed_alike, held_at, lists_at, sorted_at}
 use Rattle.eco_world.proofs.Held.{keys, retyped_without}
 use Rattle.eco_world.proofs.Losing.{both_taken, mirrored}
 use Rattle.eco_world.proofs.Mirroring.{apart, both_typed}
-
-same_truth : (a b : Bool) → (IsTrue a → IsTrue b) → (IsTrue b → IsTrue a) → a ≡ b
-same_truth a b to back = grind arith
 
 module _ (w : WorldState) (lawful : IsLawful w) (e : Entity) (i : Id) (m : Entity × Id) (is : mirror_of w e i ≡ Some m) (other : entity_eq m.0 e ≡ false) where
   abbrev goes : Entity → Id → Bool
@@ -22,7 +19,7 @@ module _ (w : WorldState) (lawful : IsLawful w) (e : Entity) (i : Id) (m : Entit
   has_both =
       let p = mirror_parts w e i m is in
       (λ t. has w (p.4 t).0 (p.4 t).1)
-      ∙ same_truth (has w p.1 (Two p.0 e)) (has w e (Two p.0 p.1)) (mirrored w lawful p.0 p.1 e p.3) (mirrored w lawful p.0 e p.1 p.3)
+      ∙ same_tests (has w p.1 (Two p.0 e)) (has w e (Two p.0 p.1)) (mirrored w lawful p.0 p.1 e p.3) (mirrored w lawful p.0 e p.1 p.3)
       ∙ ap (has w e) (sym p.2)
 
   pub holder_lives : has w e i ≡ true → IsTrue (is_alive w m.0)
@@ -33,7 +30,8 @@ module _ (w : WorldState) (lawful : IsLawful w) (e : Entity) (i : Id) (m : Entit
 
   -- ---- it comes
 
-  comes : (x : Entity) (j : Id) (d : Record) → record_of w x ≡ Some d → has w x j ≡ false → with_toggled j d ≡ with_type (with_item id_cmp (type_of w x) j) d
+  comes : (x : Entity) (j : Id) (d : Record) → record_of w x ≡ Some d → has w x j ≡ false
+      → with_toggled j d ≡ with_type (with_item id_cmp (type_of w x) j) d
   comes x j d at absent =
       ap (λ ids. with_type ids d)
       (ap (λ b. cond b (without_item id_cmp (record_ids d) j) (with_item id_cmp (record_ids d) j)) (lists_at w x j d at ∙ absent)
@@ -70,7 +68,7 @@ module _ (w : WorldState) (lawful : IsLawful w) (e : Entity) (i : Id) (m : Entit
 
   own_goes : (j : Id) → goes e j ≡ id_eq j i
   own_goes j =
-      same_truth (goes e j) (id_eq j i)
+      same_tests (goes e j) (id_eq j i)
       (λ h. elim (or_parts (at_mirror (takes_id e i) (mirror_of w e j)) (takes_id e i e j) h) as (λ _. IsTrue (id_eq j i)) [
         | inl k ↦ absurd (own_mirror j k)
         | inr k ↦ second (entity_eq e e) _ k
@@ -100,7 +98,7 @@ module _ (w : WorldState) (lawful : IsLawful w) (e : Entity) (i : Id) (m : Entit
 
   its_goes : (j : Id) → goes m.0 j ≡ id_eq j m.1
   its_goes j =
-      same_truth (goes m.0 j) (id_eq j m.1)
+      same_tests (goes m.0 j) (id_eq j m.1)
       (λ h. elim (or_parts (at_mirror (takes_id e i) (mirror_of w m.0 j)) (takes_id e i m.0 j) h) as (λ _. IsTrue (id_eq j m.1)) [
         | inl k ↦ its_mirror j k
         | inr k ↦ absurd (not_both (first (entity_eq m.0 e) _ k) other)

@@ -28,7 +28,8 @@ pub another : (w : WorldState) (e : Entity) (i : Id) (o : Option (Entity × Id))
     → (mirror_of w e i ≡ Some m) × (entity_eq m.0 e ≡ false)
 another w e i o m some = subst (Sought w e i) some
 
-pub other : (w : WorldState) (e : Entity) (i : Id) (o : Option (Entity × Id)) (m : Entity × Id) → o ≡ Some m → Sought w e i o → mirror_of w e i ≡ Some m
+pub other : (w : WorldState) (e : Entity) (i : Id) (o : Option (Entity × Id)) (m : Entity × Id) → o ≡ Some m → Sought w e i o
+    → mirror_of w e i ≡ Some m
 other w e i o m some sought = (another w e i o m some sought).0
 
 keys_retyped : (ids : List Id) (held : Held) → keys (retyped ids held) ≡ ids
@@ -42,7 +43,8 @@ id_there i d h = ap (λ b. record d { held = cond b d.held (put id_cmp i zeros d
 typed_there : (ids : List Id) (i : Id) (d : Record) → IsTrue (has_item id_cmp ids i) → IsTrue (is_some (find id_cmp i (with_type ids d).held))
 typed_there ids i d own = keys_find (retyped ids d.held) i ∙ ap (λ js. has_item id_cmp js i) (keys_retyped ids d.held) ∙ own
 
-pub alone_typed : (w : WorldState) (e : Entity) (i : Id) (ids : List Id) (d : Record) → record_of w e ≡ Some d → IsAlone w e i → IsTrue (has_item id_cmp ids i)
+pub alone_typed : (w : WorldState) (e : Entity) (i : Id) (ids : List Id) (d : Record) → record_of w e ≡ Some d → IsAlone w e i
+    → IsTrue (has_item id_cmp ids i)
     → with_mirror (changed w e (with_type ids)) (mirror_of w e i) ≡ changed w e (with_type ids)
 alone_typed w e i ids d at alone own = by (mirror_of w e i) refl
   where

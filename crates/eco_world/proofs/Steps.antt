@@ -25,7 +25,8 @@ lifted edition qs Step may v new r = meets_as (Step v) (OnEntities Step (world_w
     (λ wants same. (wants, ap (λ x. world_with edition x qs) same)) (λ made. (new, made, refl))
 
 -- a call that meets a step which keeps the world lawful does so, as the store is seen
-pub met_lawful : {A : Type 0} (Step : Result A Refusal → WorldState → Type 0) (may : Bool) (seen w new : WorldState) (r : Result A Refusal) → seen ≡ w →
+pub met_lawful : {A : Type 0} (Step : Result A Refusal → WorldState → Type 0) (may : Bool) (seen w new : WorldState) (r : Result A Refusal)
+    → seen ≡ w →
     IsLawful seen → (IsLawful w → Step r new → IsLawful new) → Meets Step may w r new → IsLawful new
 met_lawful Step may seen w new r is was keeps = let lawful = subst IsLawful is was in meets_lawful Step may w r new lawful (keeps lawful)
 

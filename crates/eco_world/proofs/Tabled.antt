@@ -16,7 +16,8 @@ itself n = (Decides-eqb n n).1 refl
 
 -- ---- rows of a table
 
-row_of : (rows : List TableRow) (e : Entity) → Contains (entities_of rows) e → (k : ℕ) × (r : TableRow) × (slice_get rows k ≡ Some r) × (r.entity ≡ e)
+row_of : (rows : List TableRow) (e : Entity) → Contains (entities_of rows) e
+    → (k : ℕ) × (r : TableRow) × (slice_get rows k ≡ Some r) × (r.entity ≡ e)
 row_of rows e p =
     let row = mapped_from (λ (r : TableRow). r.entity) rows e p in
     let at = row.1 in
@@ -35,7 +36,8 @@ has_row (r ∷ rows) e h =
     ]
 
 -- rows of different entities list each once
-distinct_rows : (rows : List TableRow) → ((i j : ℕ) (r x : TableRow) → slice_get rows i ≡ Some r → slice_get rows j ≡ Some x → r.entity ≡ x.entity → i ≡ j) →
+distinct_rows : (rows : List TableRow)
+    → ((i j : ℕ) (r x : TableRow) → slice_get rows i ≡ Some r → slice_get rows j ≡ Some x → r.entity ≡ x.entity → i ≡ j) →
     is_distinct (entities_of rows) ≡ true
 distinct_rows [] once = refl
 distinct_rows (r ∷ rows) once = both _ _ (by (has_item entity_cmp (entities_of rows) r.entity) refl)
@@ -127,7 +129,8 @@ with_rows_from (Some u ∷ slots) (suc n) table at some =
 abbrev pub HasKinds : List (Option TableState) → Type 0
 HasKinds slots = (n m : ℕ) (ids : List Id) → type_at slots n ≡ Some ids → type_at slots m ≡ Some ids → n ≡ m
 
-no_other : (x : ListedTable) (ts : List ListedTable) → ((t : ListedTable) → Contains ts t → x.ids ≡ t.ids → ⊥) → AllByRecursion (λ t. same_type x t ≡ false) ts
+no_other : (x : ListedTable) (ts : List ListedTable) → ((t : ListedTable) → Contains ts t → x.ids ≡ t.ids → ⊥)
+    → AllByRecursion (λ t. same_type x t ≡ false) ts
 no_other x [] apart = tt
 no_other x (t ∷ ts) apart =
     (false_from_ne_true (same_type x t) (λ e. apart t (here t ts) (same_ids x.ids t.ids e)), no_other x ts (λ u c. apart u (there t u ts c)))
@@ -239,7 +242,8 @@ module _ (w : WorldState) (slots : List (Option TableState)) (shown : IsShown (e
     | inr c ↦ or_right (nat_eq n m) (list_any (nat_eq n) ms) (any_of ms n c)
   ]
 
-  shown_to : (ns : List ℕ) (t : ListedTable) → Contains (map (shown_at slots) ns) t → (n : ℕ) × (list_any (nat_eq n) ns ≡ true) × (shown_at slots n ≡ t)
+  shown_to : (ns : List ℕ) (t : ListedTable) → Contains (map (shown_at slots) ns) t
+      → (n : ℕ) × (list_any (nat_eq n) ns ≡ true) × (shown_at slots n ≡ t)
   shown_to ns t p = let one = mapped_from (shown_at slots) ns t p in (one.0, any_of ns one.0 one.1, one.2)
 
   shown_from : (ns : List ℕ) (n : ℕ) → list_any (nat_eq n) ns ≡ true → Contains (map (shown_at slots) ns) (shown_at slots n)
@@ -264,7 +268,8 @@ module _ (w : WorldState) (slots : List (Option TableState)) (shown : IsShown (e
           let same : n ≡ m = kinds n m (table_in slots n).ids (type_there n own) (type_there m theirs ∙ ap Some kind) in
           true≢false (sym (itself n) ∙ ap (nat_eq n) same ∙ differ))
 
-      apart : (ms : List ℕ) → AllByRecursion (λ m. nat_eq n m ≡ false) ms → ((m : ℕ) → list_any (nat_eq m) ms ≡ true → 0 < length (table_in slots m).rows) →
+      apart : (ms : List ℕ) → AllByRecursion (λ m. nat_eq n m ≡ false) ms
+          → ((m : ℕ) → list_any (nat_eq m) ms ≡ true → 0 < length (table_in slots m).rows) →
           AllByRecursion (λ t. same_type (shown_at slots n) t ≡ false) (map (shown_at slots) ms)
       apart [] differ theirs = tt
       apart (m ∷ ms) differ theirs = (

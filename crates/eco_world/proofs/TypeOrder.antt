@@ -26,7 +26,8 @@ module _ {X : Type 0} where
         let y = get_or ys n e in
         begun xs ys n x y (omega arith) (omega arith) (same_read xs n d x (omega arith)) (same_read ys n e y (omega arith)) (slice_cmp R) ∙ rest
 
-    pub found : (d e : X) (b : Bool) → n < min (length xs) (length ys) → Rest (slice_cmp R) xs ys n → Some b ≡ decided (R (get_or xs n d) (get_or ys n e))
+    pub found : (d e : X) (b : Bool) → n < min (length xs) (length ys) → Rest (slice_cmp R) xs ys n
+        → Some b ≡ decided (R (get_or xs n d) (get_or ys n e))
         → b ≡ is_lt (slice_cmp R xs ys)
     found d e b within rest h = settles _ (slice_cmp R (drop (n + 1) xs) (drop (n + 1) ys)) b h ∙ ap is_lt (split d e within rest)
 

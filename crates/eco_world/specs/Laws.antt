@@ -35,7 +35,8 @@ StandWhere w passes tables =
 pub record ListingsAreExact : Type 0 where
   pub by_type : (w : WorldState) (passes : List Id → Bool) (tables : List ListedTable) → ListsBy w passes tables → StandWhere w passes tables
   pub with_pattern : (w : WorldState) (p : Pattern) (tables : List ListedTable) → ListsWith w p tables → StandWhere w (list_any (pattern_matches p)) tables
-  pub for_slots : (w : WorldState) (slots : List QueryTerm) (tables : List ListedTable) → ListsFor w slots tables → StandWhere w (all_slots_hold slots) tables
+  pub for_slots : (w : WorldState) (slots : List QueryTerm) (tables : List ListedTable) → ListsFor w slots tables
+      → StandWhere w (all_slots_hold slots) tables
 
 -- a value that is lent is the one that the world has for the entity in its row
 abbrev pub ValuesAreLent : Type 0
@@ -59,7 +60,8 @@ AddedQueriesAreFound =
 -- no query is refused as absent that is there, and memory may be wanting only for one that is there and may want some
 pub record QueriesAreRefused : Type 0 where
   pub absent : (w : WorldState) (n : ℕ) (may_want : List QueryTerm → Bool) → RefusesQuery w n may_want NoSuchQuery ↔ (length w.queries ≤ n)
-  pub wanting : (w : WorldState) (n : ℕ) (may_want : List QueryTerm → Bool) (why : Refusal) → (why ≡ NoSuchQuery → ⊥) → RefusesQuery w n may_want why
+  pub wanting : (w : WorldState) (n : ℕ) (may_want : List QueryTerm → Bool) (why : Refusal) → (why ≡ NoSuchQuery → ⊥)
+      → RefusesQuery w n may_want why
       → (why ≡ OutOfMemory) × OfQuery w n (λ slots. IsTrue (may_want slots))
 
 -- a query without results may want no memory

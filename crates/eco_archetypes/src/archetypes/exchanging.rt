@@ -1,11 +1,10 @@
 //! The table whose type has one id in the place of another.
 ghost use Rattle.std.specs.Prelude.{◌≡◌, ◌≢◌, ◌<◌, ◌+◌, drop, length, slice_get, take, Some, IsSome, IsTrue, true};
-ghost use Rattle.std.specs.Prelude.{false, IfOk, IfSome, OnOk};
+ghost use Rattle.std.specs.Prelude.{false, IfOk, IfSome};
 ghost use Rattle.eco_ids.specs.Order.{id_cmp, has_item};
 ghost use Rattle.eco_tables.specs.Tables.{slot_of, table_in};
 ghost use Rattle.eco_index.specs.Edges.{exchanged};
-ghost use Rattle.eco_archetypes.specs.Archetypes.{type_at, KeepsRoom, KeepsTypes, RowlessBut, SameRows};
-ghost use Rattle.eco_archetypes.specs.Widths.{StillCover};
+ghost use Rattle.eco_archetypes.specs.Archetypes.{type_at, FindsRoom};
 
 use crate::archetypes::{Archetypes, are_same, type_in};
 use eco_entities::EntityIndex;
@@ -68,15 +67,9 @@ impl Archetypes {
         requires slot { IsSome (slot_of self.old slot) }
         requires there { has_item id_cmp (table_in self.old slot).ids leaving ≡ true }
         requires absent { has_item id_cmp (table_in self.old slot).ids coming ≡ false }
-        ensures typed { IfOk result
-            (λ n. type_at self.new n ≡ Some (exchanged (table_in self.old slot).ids leaving coming)) }
+        ensures finds { FindsRoom entities.now self.old self.new
+            (exchanged (table_in self.old slot).ids leaving coming) 1 result }
         ensures apart { IfOk result (λ n. slot ≢ n) }
-        ensures room { IfOk result (λ n. 0 < (table_in self.new n).room) }
-        ensures kept { OnOk result (KeepsRoom self.old self.new) }
-        ensures rowless { RowlessBut self.old self.new result }
-        ensures rows { SameRows self.old self.new }
-        ensures types { KeepsTypes self.old self.new }
-        ensures widths { StillCover entities.now self.old self.new }
     {
         match self.known_exchange(slot, leaving, coming) {
             Some(to) => {
@@ -152,15 +145,9 @@ impl Archetypes {
     ) -> Result<TableSlot, AllocError>
         requires slot { IsSome (slot_of self.old slot) }
         requires absent { has_item id_cmp (table_in self.old slot).ids coming ≡ false }
-        ensures typed { IfOk result
-            (λ n. type_at self.new n ≡ Some (exchanged (table_in self.old slot).ids leaving coming)) }
+        ensures finds { FindsRoom entities.now self.old self.new
+            (exchanged (table_in self.old slot).ids leaving coming) 1 result }
         ensures apart { IfOk result (λ n. slot ≢ n) }
-        ensures room { IfOk result (λ n. 0 < (table_in self.new n).room) }
-        ensures kept { OnOk result (KeepsRoom self.old self.new) }
-        ensures rowless { RowlessBut self.old self.new result }
-        ensures rows { SameRows self.old self.new }
-        ensures types { KeepsTypes self.old self.new }
-        ensures widths { StillCover entities.now self.old self.new }
     {
         let type_list = exchanged(type_in(&self.tables, slot), leaving, coming)?;
         self.room_for(entities, &type_list, 1)

@@ -1,10 +1,9 @@
 //! The step from a type to the one that has an id more, or less.
-ghost use Rattle.std.specs.Prelude.{◌≡◌, ◌≢◌, ◌≤◌, Some, IsSome, IsTrue, IfOk, IfSome, OnOk};
+ghost use Rattle.std.specs.Prelude.{◌≡◌, ◌≢◌, Some, IsSome, IsTrue, IfOk, IfSome};
 ghost use Rattle.eco_ids.specs.Order.{id_cmp, is_ascending};
 ghost use Rattle.eco_tables.specs.Tables.{slot_of, table_in, SetsRoom};
 ghost use Rattle.eco_index.specs.Edges.{toggled};
-ghost use Rattle.eco_archetypes.specs.Archetypes.{type_at, KeepsRoom, KeepsTypes, RowlessBut, SameRows};
-ghost use Rattle.eco_archetypes.specs.Widths.{StillCover};
+ghost use Rattle.eco_archetypes.specs.Archetypes.{type_at, FindsRoom};
 
 use crate::archetypes::{Archetypes, type_in};
 use eco_entities::EntityIndex;
@@ -36,15 +35,9 @@ impl Archetypes {
         more: usize,
     ) -> Result<TableSlot, AllocError>
         requires { IsSome (slot_of self.old slot) }
-        ensures typed { IfOk result
-            (λ n. type_at self.new n ≡ Some (toggled (table_in self.old slot).ids id)) }
+        ensures finds { FindsRoom entities.now self.old self.new
+            (toggled (table_in self.old slot).ids id) more result }
         ensures apart { IfOk result (λ n. slot ≢ n) }
-        ensures room { IfOk result (λ n. more ≤ (table_in self.new n).room) }
-        ensures kept { OnOk result (KeepsRoom self.old self.new) }
-        ensures rowless { RowlessBut self.old self.new result }
-        ensures rows { SameRows self.old self.new }
-        ensures types { KeepsTypes self.old self.new }
-        ensures widths { StillCover entities.now self.old self.new }
     {
         match self.lead(slot, id) {
             Some(to) => {
@@ -78,13 +71,8 @@ impl Archetypes {
     ) -> Result<TableSlot, AllocError>
         requires { IsSome (slot_of self.old slot) }
         ensures same { IfOk result (λ n. n ≡ slot) }
+        ensures finds { FindsRoom entities.now self.old self.new (table_in self.old slot).ids more result }
         ensures sets { SetsRoom self.old self.new slot }
-        ensures typed { type_at self.new slot ≡ type_at self.old slot }
-        ensures room { OnOk result (more ≤ (table_in self.new slot).room) }
-        ensures kept { OnOk result (KeepsRoom self.old self.new) }
-        ensures rowless { RowlessBut self.old self.new result }
-        ensures rows { SameRows self.old self.new }
-        ensures widths { StillCover entities.now self.old self.new }
     {
         self.reserve_rows(slot, more)?;
         Ok(slot)
@@ -102,15 +90,9 @@ impl Archetypes {
         more: usize,
     ) -> Result<TableSlot, AllocError>
         requires { IsSome (slot_of self.old slot) }
-        ensures typed { IfOk result
-            (λ n. type_at self.new n ≡ Some (toggled (table_in self.old slot).ids id)) }
+        ensures finds { FindsRoom entities.now self.old self.new
+            (toggled (table_in self.old slot).ids id) more result }
         ensures apart { IfOk result (λ n. slot ≢ n) }
-        ensures room { IfOk result (λ n. more ≤ (table_in self.new n).room) }
-        ensures kept { OnOk result (KeepsRoom self.old self.new) }
-        ensures rowless { RowlessBut self.old self.new result }
-        ensures rows { SameRows self.old self.new }
-        ensures types { KeepsTypes self.old self.new }
-        ensures widths { StillCover entities.now self.old self.new }
     {
         let type_list = toggled(type_in(&self.tables, slot), id)?;
         let Some(to) = self.find(&type_list) else {

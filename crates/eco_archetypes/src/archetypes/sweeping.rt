@@ -1,10 +1,9 @@
 //! Tables without rows go: one by one, or where they are many all at once.
-ghost use Rattle.std.specs.Prelude.{◌≡◌, ◌++◌, [], ◌∷◌, List, ℕ};
+ghost use Rattle.std.specs.Prelude.{◌++◌, [], ◌∷◌, List, ℕ};
 ghost use Rattle.eco_caches.specs.Caching.{AreExact};
 ghost use Rattle.eco_caches.specs.Contents.{cache_list};
 ghost use Rattle.eco_archetypes.specs.Archetypes.{type_at, RowlessIn, SameRows};
-ghost use Rattle.eco_archetypes.specs.Sweeping.{DropsRowless, IsLess};
-ghost use Rattle.eco_archetypes.specs.Widths.{KeepsWidths};
+ghost use Rattle.eco_archetypes.specs.Sweeping.{DropsRowless, IsLess, Sweeps};
 
 use crate::archetypes::Archetypes;
 use crate::occupied::Occupied;
@@ -21,11 +20,7 @@ const LOOKED_AT: usize = 8;
 impl Archetypes {
     /// Drops those tables in these slots that have no rows. Every other slot keeps what it had. It takes no memory.
     pub fn drop_each(&mut self, slots: &[TableSlot])
-        ensures dropped { DropsRowless self.old self.new slots.now }
-        ensures rowless { (others : List ℕ) →
-            RowlessIn self.old (slots.now ++ others) → RowlessIn self.new others }
-        ensures rows { SameRows self.old self.new }
-        ensures widths { KeepsWidths self.old self.new }
+        ensures { Sweeps self.old self.new slots.now }
     {
         if slots.len() >= MANY_TABLES && self.tables.len() / LOOKED_AT <= slots.len() {
             self.drop_together(slots);
@@ -36,11 +31,7 @@ impl Archetypes {
 
     // What `drop_each` does with few tables.
     fn drop_in_turn(&mut self, slots: &[TableSlot])
-        ensures dropped { DropsRowless self.old self.new slots.now }
-        ensures rowless { (others : List ℕ) →
-            RowlessIn self.old (slots.now ++ others) → RowlessIn self.new others }
-        ensures rows { SameRows self.old self.new }
-        ensures widths { KeepsWidths self.old self.new }
+        ensures { Sweeps self.old self.new slots.now }
     {
         for slot in slots {
             self.drop_empty(*slot);
@@ -50,11 +41,7 @@ impl Archetypes {
     // What `drop_each` does with many tables: what leads to tables is gone through once, and what leads to none goes. Taken
     // out by itself, each table would be looked for in all maps.
     fn drop_together(&mut self, slots: &[TableSlot])
-        ensures dropped { DropsRowless self.old self.new slots.now }
-        ensures rowless { (others : List ℕ) →
-            RowlessIn self.old (slots.now ++ others) → RowlessIn self.new others }
-        ensures rows { SameRows self.old self.new }
-        ensures widths { KeepsWidths self.old self.new }
+        ensures { Sweeps self.old self.new slots.now }
     {
         drop_tables(&mut self.tables, &mut self.caches, slots);
         let occupied = Occupied {

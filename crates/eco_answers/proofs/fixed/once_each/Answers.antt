@@ -7,6 +7,7 @@ loop-slot-preserved c =
     let i = c.loop-slot.slot-index in
     let was = c.loop-slot.invariant in record {
       width = ap (λ (v : ChoicesState). v.width) c.in_ok-push.ensures.ok ∙ was.width;
-      each = ap (λ (v : ChoicesState). v.all) c.in_ok-push.ensures.ok ∙ ap (λ cs. cs ++ c.args.choice.now ∷ []) was.each ∙ copy_more i c.args.choice.now;
+      each = ap (λ (v : ChoicesState). v.all) c.in_ok-push.ensures.ok ∙ ap (λ cs. cs ++ c.args.choice.now ∷ []) was.each
+          ∙ copy_more i c.args.choice.now;
       ascending = All-more (Ascends c.args.tables.now) c.args.slots.now i 0 c.loop-slot-test.true was.ascending (search rules);
     }

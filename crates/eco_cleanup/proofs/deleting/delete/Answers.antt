@@ -13,7 +13,8 @@ returns c =
     let planned = c.in_ok-plan.ensures.planned in
     λ members list. (
       (rw (c.deref.ensures.value, c.deref-2.ensures.value) at c.in_ok-carry_out.ensures.ok) (names_any plan.dead.items) planned.taken
-          ∙ as_listed c.args.store.now.entities (λ x. IsTrue (has_item entity_cmp c.args.roots.now x)) plan.dead.items plan.changes.items planned members list,
+          ∙ as_listed c.args.store.now.entities
+          (λ x. IsTrue (has_item entity_cmp c.args.roots.now x)) plan.dead.items plan.changes.items planned members list,
       c.in_ok-plan.ensures.judged members list,
     )
 

@@ -26,7 +26,8 @@ join-requires-clause-width c =
     ap (λ x. x.width) same
     ∙ c.requires.widths c.loop-column.column-index c.column-item.result (omega arith) c.in-Some.place c.index-source-place.result
     (place_within _ _ _ c.in-Some.ensures.found)
-    (ap (λ x. x.id) (sym same) ∙ sym c.id.ensures ∙ place_id c.args.source.now c.in-Some.place c.id.result c.in-Some.ensures.found c.index-source-place.result)
+    (ap (λ x. x.id) (sym same) ∙ sym c.id.ensures
+    ∙ place_id c.args.source.now c.in-Some.place c.id.result c.in-Some.ensures.found c.index-source-place.result)
     ∙ sym (ap (λ x. x.width) c.index-source-place.is)
 
 pub join_zeros-requires : goal.join_zeros-requires

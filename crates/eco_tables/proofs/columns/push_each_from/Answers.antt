@@ -11,7 +11,8 @@ bounds-source-place c = place_within _ _ _ c.in-Some.ensures.found
 
 pub push_from-requires-clause-room : goal.push_from-requires-clause-room
 push_from-requires-clause-room c =
-    not_yet_all (λ x. 0 < x.room) (λ x. pushed x (value_in (held_in c.args.source.now c.args.row) x.id)) c.args.columns.now c.loop-column.columns c.loop-column.column-index
+    not_yet_all (λ x. 0 < x.room) (λ x. pushed x (value_in (held_in c.args.source.now c.args.row) x.id)) c.args.columns.now
+    c.loop-column.columns c.loop-column.column-index
     c.column-item.result (omega arith) c.loop-column.invariant c.requires.room
 
 pub push_from-requires-clause-row : goal.push_from-requires-clause-row
@@ -27,12 +28,14 @@ push_from-requires-clause-width c =
     let same = not_yet f c.args.columns.now c.loop-column.columns k c.column-item.result (omega arith) c.loop-column.invariant in
     ap (λ x. x.width) same
     ∙ c.requires.widths k c.column-item.result (omega arith) c.in-Some.place c.index-source-place.result (place_within _ _ _ c.in-Some.ensures.found)
-    (ap (λ x. x.id) (sym same) ∙ sym c.id.ensures ∙ place_id c.args.source.now c.in-Some.place c.id.result c.in-Some.ensures.found c.index-source-place.result)
+    (ap (λ x. x.id) (sym same) ∙ sym c.id.ensures
+    ∙ place_id c.args.source.now c.in-Some.place c.id.result c.in-Some.ensures.found c.index-source-place.result)
     ∙ sym (ap (λ x. x.width) c.index-source-place.is)
 
 pub push_zeros-requires : goal.push_zeros-requires
 push_zeros-requires c =
-    not_yet_all (λ x. 0 < x.room) (λ x. pushed x (value_in (held_in c.args.source.now c.args.row) x.id)) c.args.columns.now c.loop-column.columns c.loop-column.column-index
+    not_yet_all (λ x. 0 < x.room) (λ x. pushed x (value_in (held_in c.args.source.now c.args.row) x.id)) c.args.columns.now
+    c.loop-column.columns c.loop-column.column-index
     c.column-item.result (omega arith) c.loop-column.invariant c.requires.room
 
 pub loop-column-init : goal.loop-column-init

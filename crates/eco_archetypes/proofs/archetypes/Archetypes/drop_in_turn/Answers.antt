@@ -1,4 +1,4 @@
-use Rattle.eco_archetypes.proofs.Common.{◌∷◌, [], take, get_or, refl, sym, ◌∙◌, subst, take_all, take_more, append_assoc, DropsRowless}
+use Rattle.eco_archetypes.proofs.Common.{◌∷◌, [], take, get_or, refl, sym, ◌∙◌, subst, take_all, take_more, append_assoc, DropsRowless, Sweeps}
 use Rattle.eco_archetypes.proofs.Sweeping.{drops_both, drops_none, drops_one}
 use Rattle.eco_archetypes.proofs.archetypes.Archetypes.drop_in_turn.Goals as goal
 
@@ -26,8 +26,6 @@ loop-slot-preserved c =
       widths = λ need was. c.drop_empty.ensures.widths need (c.loop-slot.invariant.widths need was);
     }
 
-pub returns-clause-rowless : goal.returns-clause-rowless
-returns-clause-rowless c = rw (take_all c.loop-slot.slot-index c.args.slots.now c.loop-slot-test.false) at c.loop-slot.invariant.rowless
-
-pub returns-clause-dropped : goal.returns-clause-dropped
-returns-clause-dropped c = rw (take_all c.loop-slot.slot-index c.args.slots.now c.loop-slot-test.false) at c.loop-slot.invariant.dropped
+pub returns : goal.returns
+returns c =
+    subst (Sweeps c.args.self.now c.loop-slot.self) (take_all c.loop-slot.slot-index c.args.slots.now c.loop-slot-test.false) c.loop-slot.invariant

@@ -44,7 +44,8 @@ invariant_of-self-in-Err c =
     c.in_ok-type_list.ensures.taken in
     let types : (k : ℕ) → type_at c.gain.new.tables k ≡ type_at s k = λ k. ap (option_map (λ (t : TableState). t.ids)) (c.in-Err.ensures.err k) in
     found_alike c.self.invariant types
-    (grown_back s m c.make_ready.new.by_type.slots c.take_with.new.self.slots c.args.slot c.args.id ids c.in-Some.type_list c.self.invariant.types c.make_ready.ensures.same
+    (grown_back s m c.make_ready.new.by_type.slots c.take_with.new.self.slots c.args.slot c.args.id ids c.in-Some.type_list
+    c.self.invariant.types c.make_ready.ensures.same
     had takes c.insert_reserved.new.self.slots c.remove.new.self c.remove.ensures.is (rw (← c.self.view_is) at c.requires.lacks)
     (rw c.type_in-old.ensures.ids at c.as_slice-ids.ensures.ascending) c.insert_reserved.ensures)
     c.gain.ensures.index c.gain.ensures.agreed (exact_types _ _ _ types (c.make_ready.ensures.exact (type_at s) c.self.invariant.cached))
@@ -66,7 +67,8 @@ invariant_of-self-2 c =
     (sym (grown_is s m ready_map left c.args.slot c.args.id ids grown types c.make_ready.ensures.same had takes)) c.in_default-gain.ensures.ok in
     found_turned c.self.invariant had turns
     (grown_new s m ready_map left c.args.slot c.args.id ids grown types c.make_ready.ensures.same had takes)
-    (grown_in s m ready_map left c.args.slot c.args.id ids grown types c.make_ready.ensures.same had takes c.insert_reserved-2.new.self.slots c.insert_reserved-2.ensures)
+    (grown_in s m ready_map left c.args.slot c.args.id ids grown types c.make_ready.ensures.same had takes
+    c.insert_reserved-2.new.self.slots c.insert_reserved-2.ensures)
     c.gain.ensures.index c.cut.ensures c.gain.ensures.agreed (then_told _ _ _ _ _ c.make_ready.ensures.exact c.tell.ensures.told)
 
 pub returns-in_default-clause-refused : goal.returns-in_default-clause-refused

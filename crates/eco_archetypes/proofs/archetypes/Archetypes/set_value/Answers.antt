@@ -5,7 +5,8 @@ use Rattle.eco_archetypes.proofs.archetypes.Archetypes.set_value.Goals as goal
 
 pub invariant_of-self : goal.invariant_of-self
 invariant_of-self c =
-    found_set c.self.invariant c.set_value.ensures.written (there_by_row c.self.inside.tables c.args.slot c.args.row (rw (← c.self.view_is) at c.requires.row)) refl refl
+    found_set c.self.invariant c.set_value.ensures.written
+    (there_by_row c.self.inside.tables c.args.slot c.args.row (rw (← c.self.view_is) at c.requires.row)) refl refl
 
 pub set_value-requires-clause-fits : goal.set_value-requires-clause-fits
 set_value-requires-clause-fits c =

@@ -1,6 +1,6 @@
-use Rattle.eco_archetypes.proofs.Common.{◌≡◌, ◌≢◌, ◌≤◌, IfOk, Some, ap, ◌∙◌, refl, subst, table_in, toggled, type_at}
-use Rattle.eco_archetypes.proofs.ArchetypeLemmas.{sets_types, there_as_typed, type_there}
-use Rattle.eco_archetypes.proofs.Leads.{apart_by_type, of_slot, of_slot_after}
+use Rattle.eco_archetypes.proofs.Common.{◌≡◌, ◌≢◌, Some, ap, ◌∙◌, subst, table_in, toggled, type_at, FindsRoom}
+use Rattle.eco_archetypes.proofs.ArchetypeLemmas.{type_there, typed_table}
+use Rattle.eco_archetypes.proofs.Leads.{apart_by_type, of_slot}
 use Rattle.eco_archetypes.proofs.Turnings.{if_ok}
 use Rattle.eco_archetypes.proofs.archetypes.Archetypes.step_anew.Goals as goal
 
@@ -19,19 +19,14 @@ returns-in_default c =
     let own = (table_in c.args.self.now c.args.slot).ids in
     let made = rw c.find.ensures.same at c.make_with_room.ensures in
     let is = rw (c.type_in.ensures.ids, c.self.view_is) at c.in_ok-type_list.ensures.is in
-    let typed = subst (λ t. IfOk c.make_with_room.result (λ n. type_at s1 n ≡ Some t)) is made.typed in
+    let finds =
+    subst (λ ids. FindsRoom c.args.entities.now c.args.self.now s1 ids c.args.more c.make_with_room.result) is made in
     let was = made.types c.args.slot own (type_there c.args.self.now c.args.slot c.requires) in
     record {
-      typed = typed;
+      finds = finds;
       apart =
           if_ok (λ n. type_at s1 n ≡ Some (toggled own c.args.id)) (λ n. c.args.slot ≢ n) c.make_with_room.result
-          (λ n at. apart_by_type s1 c.args.slot n c.args.id own was at) typed;
-      room = made.room;
-      kept = made.kept;
-      rowless = made.rowless;
-      rows = made.rows;
-      types = made.types;
-      widths = made.widths;
+          (λ n at. apart_by_type s1 c.args.slot n c.args.id own was at) finds.typed;
     }
 
 pub returns : goal.returns
@@ -44,14 +39,8 @@ returns c =
     let is = rw (c.type_in.ensures.ids, c.self.view_is) at c.in_ok-type_list.ensures.is in
     let found = c.in-Some.ensures.found ∙ ap Some is in
     record {
-      typed = of_slot (λ n. type_at s1 n ≡ Some (toggled own c.args.id)) to c.make_room.result roomy.same (roomy.typed ∙ found);
+      finds = subst (λ ids. FindsRoom c.args.entities.now s s1 ids c.args.more c.make_room.result) (typed_table s to _ found) roomy.finds;
       apart =
           of_slot (λ n. c.args.slot ≢ n) to c.make_room.result roomy.same
           (apart_by_type s c.args.slot to c.args.id own (type_there s c.args.slot c.requires) found);
-      room = of_slot_after (λ n. c.args.more ≤ (table_in s1 n).room) to c.make_room.result roomy.same roomy.room;
-      kept = roomy.kept;
-      rowless = roomy.rowless;
-      rows = roomy.rows;
-      types = λ n ids at. sets_types s s1 to _ roomy.sets (there_as_typed s to _ found) refl n ∙ at;
-      widths = roomy.widths;
     }

@@ -1,6 +1,5 @@
 use Rattle.eco_store.proofs.Common.{◌≡◌, ◌+◌, ◌≤◌, ◌++◌, ◌∷◌, [], take, length, ap, sym, ◌∙◌, subst, arith, take_all}
-use Rattle.eco_store.proofs.Common.{take_more, table_in}
-use Rattle.eco_store.proofs.Common.{there_as_typed, Transfer, AreTransfersReady}
+use Rattle.eco_store.proofs.Common.{take_more, table_in, there_as_typed, Transfer, AreTransfersReady}
 use Rattle.eco_store.proofs.Laid.{plans_none, plans_reserved, plans_then}
 use Rattle.eco_store.proofs.Pouring.{ready_kept, ready_more, ready_none}
 use Rattle.eco_store.proofs.layout.Layout.plan_changes.Goals as goal

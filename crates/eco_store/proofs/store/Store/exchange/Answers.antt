@@ -14,11 +14,11 @@ exchange-requires-clause-absent c =
 
 pub carry-requires-clause-laid : goal.carry-requires-clause-laid
 carry-requires-clause-laid c =
-    sought_laid c.self.inside.layout _ c.exchange.ensures.rows c.self.invariant.laid c.exchange.ensures.widths c.in_ok-to.to c.in_ok-to.ensures.rowless
+    sought_laid c.self.inside.layout _ c.exchange.ensures.finds.rows c.self.invariant.laid c.exchange.ensures.finds.widths c.in_ok-to.to c.in_ok-to.ensures.finds.rowless
 
 pub invariant_of-self : goal.invariant_of-self
 invariant_of-self c =
-    sought_settled c.self.inside.layout _ c.exchange.ensures.rows c.self.invariant c.exchange.ensures.widths c.in_err-to.ensures.rowless
+    sought_settled c.self.inside.layout _ c.exchange.ensures.finds.rows c.self.invariant c.exchange.ensures.finds.widths c.in_err-to.ensures.finds.rowless
 
 pub invariant_of-self-2 : goal.invariant_of-self-2
 invariant_of-self-2 c = still_settled c.self.inside.layout _ c.carry.ensures.carries.staying c.self.invariant c.carry.ensures.carries.laid
@@ -28,14 +28,14 @@ returns-in_err-to c =
     let l = c.self.inside.layout in
     let p = err_from_is_err_and c.from_residual.result c.from_residual.ensures.1 in
     rw (← c.self.view_is)
-    (tried_none _ _ c.from_residual.result _ _ p.1 (same_read l.entities l.archetypes _ c.exchange.ensures.rows))
+    (tried_none _ _ c.from_residual.result _ _ p.1 (same_read l.entities l.archetypes _ c.exchange.ensures.finds.rows))
 
 pub returns : goal.returns
 returns c =
     let l = c.self.inside.layout in
     rw (← c.self.view_is) (record {
       ok =
-          sought_seen l _ c.exchange.ensures.rows _ c.in_ok-to.to c.args.e _ c.in_ok-to.ensures.typed c.carry.ensures.seen
+          sought_seen l _ c.exchange.ensures.finds.rows _ c.in_ok-to.to c.args.e _ c.in_ok-to.ensures.finds.typed c.carry.ensures.seen
           ∙ leads_to (seen l) c.args.e _ c.place_of-place.ensures.typed (λ ids. exchanged ids c.args.leaving c.args.coming);
       err = tt;
     })

@@ -1,4 +1,4 @@
-use Rattle.eco_store.proofs.Common.{◌≢◌, ◌<◌, sym, ap, ◌∙◌, subst, err_from_is_err_and, arith, table_in, toggled, type_at, seen}
+use Rattle.eco_store.proofs.Common.{◌≢◌, sym, ap, ◌∙◌, subst, err_from_is_err_and, toggled, seen, Some, typed_table}
 use Rattle.eco_store.proofs.Laid.{sought_laid, sought_seen, sought_settled, still_settled, tried_none}
 use Rattle.eco_store.proofs.Stepping.{leads_to}
 use Rattle.eco_store.proofs.StoreChanges.{same_read}
@@ -6,20 +6,15 @@ use Rattle.eco_store.proofs.store.Store.step.Goals as goal
 
 pub carry-requires-clause-laid : goal.carry-requires-clause-laid
 carry-requires-clause-laid c =
-    let tables = c.make_room.ensures in
-    sought_laid c.self.inside.layout _ tables.rows c.self.invariant.laid tables.widths c.in_ok-to.to c.in_ok-to.ensures.rowless
+    let tables = c.make_room.ensures.finds in
+    sought_laid c.self.inside.layout _ tables.rows c.self.invariant.laid tables.widths c.in_ok-to.to c.in_ok-to.ensures.finds.rowless
 
 pub carry-requires-clause-apart : goal.carry-requires-clause-apart
 carry-requires-clause-apart c = subst (λ n. c.place_of-place.result.table ≢ n) (sym c.in_ok-to.ensures.same) c.in-Some.ensures.apart
 
-pub carry-requires-clause-room : goal.carry-requires-clause-room
-carry-requires-clause-room c =
-    subst (λ n. 0 < (table_in c.make_room.new.self n).room) (sym c.in_ok-to.ensures.same)
-    (let room = c.in_ok-to.ensures.room in omega (arith, room))
-
 pub invariant_of-self : goal.invariant_of-self
 invariant_of-self c =
-    sought_settled c.self.inside.layout _ c.make_room.ensures.rows c.self.invariant c.make_room.ensures.widths c.in_err-to.ensures.rowless
+    sought_settled c.self.inside.layout _ c.make_room.ensures.finds.rows c.self.invariant c.make_room.ensures.finds.widths c.in_err-to.ensures.finds.rowless
 
 pub invariant_of-self-2 : goal.invariant_of-self-2
 invariant_of-self-2 c = still_settled c.self.inside.layout _ c.carry.ensures.carries.staying c.self.invariant c.carry.ensures.carries.laid
@@ -29,16 +24,16 @@ returns-in_err-to c =
     let l = c.self.inside.layout in
     let p = err_from_is_err_and c.from_residual.result c.from_residual.ensures.1 in
     rw (← c.self.view_is)
-    (tried_none _ _ c.from_residual.result _ _ p.1 (same_read l.entities l.archetypes _ c.make_room.ensures.rows))
+    (tried_none _ _ c.from_residual.result _ _ p.1 (same_read l.entities l.archetypes _ c.make_room.ensures.finds.rows))
 
 pub returns : goal.returns
 returns c =
     let l = c.self.inside.layout in
     let s1 = c.make_room.new.self in
-    let typed = ap (type_at s1) c.in_ok-to.ensures.same ∙ c.make_room.ensures.typed ∙ c.in-Some.ensures.typed in
+    let typed = c.in_ok-to.ensures.finds.typed ∙ ap Some (typed_table l.archetypes c.in-Some.led _ c.in-Some.ensures.typed) in
     rw (← c.self.view_is) (record {
       ok =
-          sought_seen l s1 c.make_room.ensures.rows _ c.in_ok-to.to c.args.e _ typed c.carry.ensures.seen
+          sought_seen l s1 c.make_room.ensures.finds.rows _ c.in_ok-to.to c.args.e _ typed c.carry.ensures.seen
           ∙ leads_to (seen l) c.args.e _ c.place_of-place.ensures.typed (λ ids. toggled ids c.args.id);
       err = tt;
     })

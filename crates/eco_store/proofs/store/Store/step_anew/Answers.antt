@@ -12,7 +12,7 @@ step-requires c =
 
 pub carry-requires-clause-laid : goal.carry-requires-clause-laid
 carry-requires-clause-laid c =
-    sought_laid c.turn.new.self _ c.step.ensures.rows c.turn.ensures.laid c.step.ensures.widths c.in_ok-to.to c.in_ok-to.ensures.rowless
+    sought_laid c.turn.new.self _ c.step.ensures.finds.rows c.turn.ensures.laid c.step.ensures.finds.widths c.in_ok-to.to c.in_ok-to.ensures.finds.rowless
 
 pub carry-requires-clause-own : goal.carry-requires-clause-own
 carry-requires-clause-own c =
@@ -34,8 +34,8 @@ invariant_of-self-then-branch c = still_settled c.self.inside.layout _ c.turn.en
 -- no other table was found
 pub invariant_of-self-in_err-to : goal.invariant_of-self-in_err-to
 invariant_of-self-in_err-to c =
-    sought_settled c.turn.new.self _ c.step.ensures.rows
-    (still_settled c.self.inside.layout _ c.turn.ensures.staying c.self.invariant c.turn.ensures.laid) c.step.ensures.widths c.in_err-to.ensures.rowless
+    sought_settled c.turn.new.self _ c.step.ensures.finds.rows
+    (still_settled c.self.inside.layout _ c.turn.ensures.staying c.self.invariant c.turn.ensures.laid) c.step.ensures.finds.widths c.in_err-to.ensures.finds.rowless
 
 pub returns-in_err-to : goal.returns-in_err-to
 returns-in_err-to c =
@@ -45,7 +45,7 @@ returns-in_err-to c =
     let p = err_from_is_err_and c.from_residual-in_err-to.result c.from_residual-in_err-to.ensures.1 in
     rw (← c.self.view_is)
     (tried_none _ _ c.from_residual-in_err-to.result _ _ p.1
-    (same_read m.entities m.archetypes _ c.step.ensures.rows ∙ seen_alike l.entities l.archetypes m c.turn.ensures.entities (rows_from_slots _ _ same)))
+    (same_read m.entities m.archetypes _ c.step.ensures.finds.rows ∙ seen_alike l.entities l.archetypes m c.turn.ensures.entities (rows_from_slots _ _ same)))
 
 -- the row goes to it
 pub invariant_of-self-2 : goal.invariant_of-self-2
@@ -62,7 +62,7 @@ returns c =
     let as_was = seen_alike l.entities l.archetypes m c.turn.ensures.entities (rows_from_slots _ _ same) in
     rw (← c.self.view_is) (record {
       ok =
-          sought_seen m _ c.step.ensures.rows _ c.in_ok-to.to c.args.e _ c.in_ok-to.ensures.typed c.carry.ensures.seen
+          sought_seen m _ c.step.ensures.finds.rows _ c.in_ok-to.to c.args.e _ c.in_ok-to.ensures.finds.typed c.carry.ensures.seen
           ∙ (λ t. changed (as_was t) c.args.e (with_type (toggled (unwrap_or (same p.table t) no_table).ids c.args.id)))
           ∙ leads_to (seen l) c.args.e _ c.place_of-place.ensures.typed (λ ids. toggled ids c.args.id);
       err = tt;

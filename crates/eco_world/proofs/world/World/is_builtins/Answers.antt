@@ -13,7 +13,8 @@ next c =
     let count = c.builtin_count-index-end.ensures ∙ ap (λ (x : WorldState). builtin_count x.edition) c.self.view_is in
     rw c.has.ensures
     (c.loop-index.invariant
-    ∙ first_of_rest (λ (e : Entity). has c.args.self.now e c.args.id) c.loop-index.index n (subst (λ m. c.loop-index.index < m) count c.loop-index-test.true))
+    ∙ first_of_rest (λ (e : Entity). has c.args.self.now e c.args.id) c.loop-index.index n
+    (subst (λ m. c.loop-index.index < m) count c.loop-index-test.true))
 
 pub returns-then-has : goal.returns-then-has
 returns-then-has c = sym (rw c.if-has.true at (next (goal.at.returns-then-has c).After-has))

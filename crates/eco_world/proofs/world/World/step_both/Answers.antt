@@ -9,6 +9,7 @@ invariant_of-self c =
     let e = c.args.entity in
     let i = c.args.id in
     let m = c.args.mirror in
-    by_result (λ x. IsLawful (world_with c.self.inside.edition x qs)) (λ x. x) c.step_both.result v c.step_both.new.self.entities (stepped (stepped v (e, i)) m)
+    by_result (λ x. IsLawful (world_with c.self.inside.edition x qs)) (λ x. x) c.step_both.result v c.step_both.new.self.entities
+    (stepped (stepped v (e, i)) m)
     c.step_both.ensures.ok c.step_both.ensures.err
     (subst IsLawful (sym (ap (λ w. changed (changed w e (with_toggled i)) m.0 (with_toggled m.1)) c.self.view_is)) c.requires.lawful) c.self.invariant

@@ -39,7 +39,8 @@ returns-clause-values c =
     (λ x p. with_rows_in_slots w slots x (subst (λ xs. Contains xs x) all p)) c.loop-slot.invariant.2)
 
 -- a list that grows by one, whose image comes next among those that are to come
-grown : {A B : Type 0} (f : A → B) (xs new : List A) (x : A) (y : B) (rest later all : List B) → new ≡ xs ++ x ∷ [] → f x ≡ y → y ∷ rest ≡ later
+grown : {A B : Type 0} (f : A → B) (xs new : List A) (x : A) (y : B) (rest later all : List B) → new ≡ xs ++ x ∷ [] → f x ≡ y
+    → y ∷ rest ≡ later
     → map f xs ++ later ≡ all → map f new ++ rest ≡ all
 grown f xs new x y rest later all pushed is next was =
     ap (λ ns. map f ns ++ rest) pushed ∙ ap (λ ys. ys ++ rest) (map-append f xs (x ∷ [])) ∙ append_assoc (map f xs) (f x ∷ []) rest

@@ -1,6 +1,6 @@
 -- The names that most proofs here cite, passed on from one place. Declares nothing.
-pub use Rattle.std.proofs.Common.{Bool, Bor, Equal, Err, Greater, IfNone, IfOk, IfSome, IsSome, IsTrue, Less, List, MatchBool, MatchOption, MatchResult, None}
-pub use Rattle.std.proofs.Common.{Ok, OnErr, OnOk, OnSome, Option, Ordering, Result, Some, [], add-one, ap, append_assoc, arith, cond, drop, false, filter}
+pub use Rattle.std.proofs.Common.{Bool, Bor, Equal, Err, Greater, IfNone, IfOk, IfSome, IsSome, IsTrue, Less, List, MatchBool, MatchOption, None}
+pub use Rattle.std.proofs.Common.{Ok, OnErr, OnSome, Option, Ordering, Result, Some, [], add-one, ap, append_assoc, arith, cond, drop, false, filter}
 pub use Rattle.std.proofs.Common.{get_or, if◌then◌else◌, inl, inr, is_eq, is_lt, is_some, length, lt_of_lt_of_le, map, nat_eq, nat_le, nat_lt, not}
 pub use Rattle.std.proofs.Common.{option_and_then, option_map, option_to_list, refl, replicate, rules, set, slice_get, slice_set, subst, suc, suc-add, sym}
 pub use Rattle.std.proofs.Common.{take, true, true≢false, unwrap_or, vec_capacity, vec_len, zero, zero-le, ℕ, ◌%◌, ◌&&◌, ◌++◌, ◌+◌, ◌-◌}
@@ -19,7 +19,7 @@ pub use Rattle.std.proofs.lemmas.List.Sorted.{sorted_far}
 pub use Rattle.std.proofs.lemmas.List.Sums.{fold-append}
 pub use Rattle.std.proofs.lemmas.Map.Views.{Contains-from_any}
 pub use Rattle.std.proofs.lemmas.Option.{get_or_from_slice_get, none-some, same_Some, slice_get-get_or, slice_get-map, slice_get_past, slice_get_within}
-pub use Rattle.std.proofs.lemmas.Result.{IfOk-at_ok, IfOk-weaker, err_from_is_err_and}
+pub use Rattle.std.proofs.lemmas.Result.{IfOk-weaker, err_from_is_err_and}
 pub use Rattle.std.specs.Cmp.{IsTotalOrder, tied_itself}
 pub use Rattle.std.specs.FinMap.{IsAntisymmetric}
 pub use Rattle.std.specs.FinMap.Entries.{find}
@@ -30,7 +30,7 @@ pub use Rattle.std.specs.Ordering.{eq_by_cmp, ordering_reverse}
 pub use Rattle.eco_archetypes.proofs.ArchetypeLemmas.{moves_all_types, moves_types, rows_from_slots, sets_types, then_rows, there_as_typed, there_by_room}
 pub use Rattle.eco_archetypes.proofs.ArchetypeLemmas.{there_by_row, there_by_type, type_there, typed_table}
 pub use Rattle.eco_archetypes.proofs.Widths.{kept_widths, lowered, zero_later}
-pub use Rattle.eco_archetypes.specs.Archetypes.{FindsSome, IsAllFound, KeepsRoom, KeepsTypes, MayTakeType, RowlessBut, RowlessIn, SameRows, SameSlots}
+pub use Rattle.eco_archetypes.specs.Archetypes.{FindsSome, IsAllFound, KeepsRoom, KeepsTypes, MayTakeType, RowlessIn, SameRows, SameSlots}
 pub use Rattle.eco_archetypes.specs.Archetypes.{SameTypes, TakesType, is_found_by, is_rowless, row_at, standing_in, type_at}
 pub use Rattle.eco_archetypes.specs.Widths.{FitsIn, MeetsNeeds, StillCover}
 pub use Rattle.eco_entities.specs.Needs.{NeedsNeverGrow, fields_for, need, need_in, need_of}
@@ -42,7 +42,7 @@ pub use Rattle.eco_ids.proofs.Facts.{equal_tie, id_eq_itself, not_both, or_parts
 pub use Rattle.eco_ids.proofs.Lists.{before, get_or-swap_remove, length-swap_remove, map-replicate, not_equal, set_own, slice_get-push_last}
 pub use Rattle.eco_ids.proofs.Lists.{slice_get-push_other, slice_get-set_other, slice_get-set_same, slice_get-set_there}
 pub use Rattle.eco_ids.proofs.Overlaps.{entity_eq_is, entity_eq_itself}
-pub use Rattle.eco_ids.proofs.Results.{err_says, on_err, on_ok}
+pub use Rattle.eco_ids.proofs.Results.{err_says, on_err}
 pub use Rattle.eco_ids.proofs.SameIds.{entity_eq-Decides, same_ids-Decides}
 pub use Rattle.eco_ids.proofs.States.{living_at, record_at, record_here, same_parts}
 pub use Rattle.eco_ids.specs.Births.{Admits, Makes, may_admit, may_make, unfit_name}
@@ -72,7 +72,7 @@ pub use Rattle.eco_store.specs.Seats.{IsSeated, Seat, held_of, seat_of, seated_e
 pub use Rattle.eco_store.specs.Staying.{KeepsRoomIn, SameIn, StayingState, all_staying, only_idle, with_gathered, with_target}
 pub use Rattle.eco_store.specs.Store.{CreatesRecord, HasPlace, IsShown, IsStore, Stands, StoreState, Tries, arity_in_store, fits_in_store, has_in_store}
 pub use Rattle.eco_store.specs.Store.{held_at, held_in_store, newborn, own_arity_in_store, read, record_for, record_ids, record_name, seat_at, seat_in}
-pub use Rattle.eco_store.specs.Store.{seat_of_place, stepped, type_in_store, with_exchanged, with_toggled, with_type}
+pub use Rattle.eco_store.specs.Store.{seat_of_place, stepped, type_in_store, with_toggled, with_type}
 pub use Rattle.eco_store.specs.Transfers.{AreNamed, AreTransfersReady, HasRoom, IsNamed, IsPlan, Pours, Thins, change_of, due, place_after, placed_after}
 pub use Rattle.eco_store.specs.Transfers.{with_places}
 pub use Rattle.eco_store.specs.declared.layout.Layout.{Layout}

@@ -2,7 +2,7 @@
 use Rattle.eco_store.proofs.Common.{◌≡◌, ◌≢◌, ℕ, ◌+◌, ◌≤◌, Bool, true, false, IsTrue, if◌then◌else◌, List, [], ◌∷◌}
 use Rattle.eco_store.proofs.Common.{slice_get, Option, Some, option_map, unwrap_or, nat_eq, refl, sym, ap, ◌∙◌, arith, Result, Ok, Err, IfOk, OnErr}
 use Rattle.eco_store.proofs.Common.{MatchBool, list_any, set_comm, Entity, Id, changed, change_kept, is_alive, record_in, record_of, with_record, Indexed}
-use Rattle.eco_store.proofs.Common.{Living, slice_get-set_other, living_at, same_parts, Place, Registration, own_place, retyped, TableState, slot_of, table_in}
+use Rattle.eco_store.proofs.Common.{Living, slice_get-set_other, living_at, same_parts, Place, Registration, own_place, retyped, TableState, table_in}
 use Rattle.eco_store.proofs.Common.{no_table, AllHaveIds, toggled, KeepsRoom, KeepsTypes, MayTakeType, SameSlots, StillCover, rows_from_slots, Layout, seen}
 use Rattle.eco_store.proofs.Common.{IsLaid, arriving, AdmitsRow, LeavesRoom, Turns, all_staying, read, record_ids, stepped, type_in_store, with_toggled}
 use Rattle.eco_store.proofs.Laid.{laid_slots}
@@ -117,12 +117,6 @@ few_arrive to n = by (nat_eq to n)
     by : (b : Bool) → (if b then 1 else 0) + 0 ≤ 1
     by true = omega arith
     by false = omega arith
-
-pub turn_leaves : (s s1 : List (Option TableState)) (n kept : ℕ) → ((m : ℕ) → m ≢ n → slot_of s1 m ≡ slot_of s m) → kept ≢ n
-    → LeavesRoom s s1 kept
-turn_leaves s s1 n kept others apart =
-    let room = ap (λ o. (unwrap_or o no_table).room) (others kept apart) in
-    record { types = λ had is. ap (option_map (λ (t : TableState). t.ids)) (others kept apart) ∙ is; room = omega (arith, room) }
 
 pub move_leaves : (s s1 s2 : List (Option TableState)) (kept to : ℕ) (targets : List ℕ) → KeepsTypes s s1 → KeepsRoom s s1
     → AdmitsRow s1 s2 targets to

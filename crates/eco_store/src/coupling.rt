@@ -77,13 +77,12 @@ impl Layout {
         ensures { StepsBeside self.old self.new step kept result }
     {
         let place = self.place_of(step.0);
-        if place.table == kept {
-            return self.step_over(step, kept);
-        }
-        if self.turn(step, place)? {
+        if place.table != kept && self.turn(step, place)? {
             return Ok(());
         }
-        self.step_over(step, kept)
+        let to = self.step_target(place.table, step.1)?;
+        self.go_to(step.0, to);
+        Ok(())
     }
 
     /// Where an entity stands alone in its table, and no other has its next type, the table takes that along, and the answer is
@@ -96,18 +95,5 @@ impl Layout {
         self.archetypes.tables().rows_have_ids();
         self.archetypes
             .step_alone(&self.entities, place.table, step.1)
-    }
-
-    // What `step_beside` does, by a move to the table of the next type.
-    fn step_over(&mut self, step: (Entity, Id), kept: TableSlot) -> Result<(), AllocError>
-        requires laid { IsLaid self.old }
-        requires alive { IsTrue (is_alive self.old.entities step.0) }
-        requires kept { IsTrue (list_any (nat_eq kept) self.old.staying.targets) }
-        ensures { StepsBeside self.old self.new step kept result }
-    {
-        let place = self.place_of(step.0);
-        let to = self.step_target(place.table, step.1)?;
-        self.go_to(step.0, to);
-        Ok(())
     }
 }

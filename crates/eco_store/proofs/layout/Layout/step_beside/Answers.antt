@@ -1,42 +1,49 @@
-use Rattle.eco_store.proofs.Common.{IsTrue, Tries, nat_eq, rules, sym, subst, list_any, err_from_is_err_and, rows_from_slots, on_ok}
-use Rattle.eco_store.proofs.Common.{is_alive, seen, StayingState, stepped}
-use Rattle.eco_store.proofs.Coupled.{leaves_from, not_turned, turn_leaves}
-use Rattle.eco_store.proofs.Laid.{seen_alike, tried_none}
+use Rattle.eco_store.proofs.Common.{◌≡◌, IsTrue, ap, sym, ◌∙◌, refl, subst, unwrap_or, list_any, nat_eq, changed, no_table, toggled}
+use Rattle.eco_store.proofs.Common.{typed_table, seen}
+use Rattle.eco_store.proofs.Common.{with_type, rows_from_slots, Layout, SameSlots, StayingState}
+use Rattle.eco_store.proofs.Coupled.{leaves_from, move_leaves, not_turned}
+use Rattle.eco_store.proofs.Laid.{plans_seen, seen_alike}
+use Rattle.eco_store.proofs.Stepping.{leads_to}
+use Rattle.eco_store.proofs.layout.Layout.step_beside.Goals.{else-place-kept-via-then-place-kept+in_ok-turn+else-branch, else-place-kept-via-else-place-kept}
 use Rattle.eco_store.proofs.layout.Layout.step_beside.Goals as goal
 
-pub returns-in_err-turn : goal.returns-in_err-turn
-returns-in_err-turn c =
-    let p = err_from_is_err_and c.from_residual.result c.from_residual.ensures.1 in
-    record {
-      steps = record { laid = c.turn.ensures.laid; tries = tried_none _ _ c.from_residual.result _ _ p.1 c.in_err-turn.ensures.err };
-      kept = rw p.1 tt;
-    }
-
-pub returns-then-branch : goal.returns-then-branch
-returns-then-branch c = record {
-  steps = record { laid = c.turn.ensures.laid; tries = record { ok = search rules; err = tt } };
-  kept =
-      turn_leaves c.args.self.now.archetypes c.turn.new.self.archetypes c.place_of-place.result.table c.args.kept c.turn.ensures.others
-      (λ same. c.if-place-kept.false (sym same));
-}
-
-pub step_over-requires-2 : goal.step_over-requires-2
-step_over-requires-2 c = record {
-  laid = c.turn.ensures.laid;
-  alive = subst (λ w. IsTrue (is_alive w c.args.step.0)) (sym c.turn.ensures.entities) c.requires.alive;
-  kept = subst (λ (q : StayingState). IsTrue (list_any (nat_eq c.args.kept) q.targets)) (sym c.turn.ensures.staying) c.requires.kept;
-}
-
+-- it goes to the table of the next type, and so far no slot has changed
 pub returns : goal.returns
 returns c =
     let l = c.args.self.now in
-    let same = not_turned _ _ _ c.if-branch.false c.in_ok-turn.ensures.took in
-    let seen_same = seen_alike l.entities l.archetypes c.turn.new.self c.turn.ensures.entities (rows_from_slots _ _ same) in
-    let over = c.step_over-2.ensures in
+    let e = c.args.step.0 in
+    let id = c.args.step.1 in
+    let to = c.in_ok-to.to in
+    let m = c.else-place-kept.self in
+    let m1 = c.step_target.new.self in
+    let plans = c.in_ok-to.ensures.plans in
+    let Still : Layout → Type 0 = λ x.
+    (x.entities ≡ l.entities) × SameSlots l.archetypes x.archetypes × (x.staying.targets ≡ l.staying.targets) in
+    let still : Still m = elim c.else-place-kept.branch [
+      | else-place-kept-via-then-place-kept+in_ok-turn+else-branch w ↦ subst Still (sym w.self-is) (
+        w.turn.ensures.entities,
+        not_turned _ _ _ w.if-branch.false w.in_ok-turn.ensures.took,
+        ap (λ (q : StayingState). q.targets) w.turn.ensures.staying,
+      )
+      | else-place-kept-via-else-place-kept w ↦ subst Still (sym w.self-is) (refl, (λ n. refl), refl)
+    ] in
+    let same = still.1 in
+    let as_was = seen_alike l.entities l.archetypes m still.0 (rows_from_slots _ _ same) in
+    let typed = typed_table m1.archetypes to _ c.in_ok-to.ensures.typed in
     record {
       steps = record {
-        laid = over.steps.laid;
-        tries = subst (λ v. Tries v (stepped v c.args.step) c.step_over-2.result (seen c.step_over-2.new.self)) seen_same over.steps.tries;
+        laid = c.go_to.ensures.carries.laid;
+        tries = record {
+          ok =
+              c.go_to.ensures.seen ∙ (λ t. changed ((plans_seen m m1 plans ∙ as_was) t) e (with_type (typed t)))
+              ∙ ap (λ o. changed (seen l) e (with_type (toggled (unwrap_or o no_table).ids id))) (same c.place_of-place.result.table)
+              ∙ leads_to (seen l) e _ c.place_of-place.ensures.typed (λ ids. toggled ids id);
+          err = tt;
+        };
       };
-      kept = on_ok c.step_over-2.result (leaves_from l.archetypes c.turn.new.self.archetypes c.step_over-2.new.self.archetypes c.args.kept same) over.kept;
+      kept =
+          leaves_from l.archetypes m.archetypes c.go_to.new.self.archetypes c.args.kept same
+          (move_leaves m.archetypes m1.archetypes c.go_to.new.self.archetypes c.args.kept to m1.staying.targets c.in_ok-to.ensures.types
+          c.in_ok-to.ensures.kept c.go_to.ensures.carries.admits
+          (plans.targets c.args.kept (subst (λ ts. IsTrue (list_any (nat_eq c.args.kept) ts)) (sym still.2) c.requires.kept)));
     }

@@ -14,7 +14,8 @@ exchange-requires-clause-absent c =
 
 pub carry-requires-clause-laid : goal.carry-requires-clause-laid
 carry-requires-clause-laid c =
-    sought_laid c.self.inside.layout _ c.exchange.ensures.finds.rows c.self.invariant.laid c.exchange.ensures.finds.widths c.in_ok-to.to c.in_ok-to.ensures.finds.rowless
+    sought_laid c.self.inside.layout _ c.exchange.ensures.finds.rows c.self.invariant.laid c.exchange.ensures.finds.widths c.in_ok-to.to
+    c.in_ok-to.ensures.finds.rowless
 
 pub invariant_of-self : goal.invariant_of-self
 invariant_of-self c =

@@ -35,7 +35,8 @@ invariant_of-self-then-branch c = still_settled c.self.inside.layout _ c.turn.en
 pub invariant_of-self-in_err-to : goal.invariant_of-self-in_err-to
 invariant_of-self-in_err-to c =
     sought_settled c.turn.new.self _ c.step.ensures.finds.rows
-    (still_settled c.self.inside.layout _ c.turn.ensures.staying c.self.invariant c.turn.ensures.laid) c.step.ensures.finds.widths c.in_err-to.ensures.finds.rowless
+    (still_settled c.self.inside.layout _ c.turn.ensures.staying c.self.invariant c.turn.ensures.laid) c.step.ensures.finds.widths
+    c.in_err-to.ensures.finds.rowless
 
 pub returns-in_err-to : goal.returns-in_err-to
 returns-in_err-to c =

@@ -6,7 +6,7 @@ use Rattle.eco_entities.proofs.Common.{is_some}
 use Rattle.eco_entities.proofs.Common.{is_eq-slice_cmp, none-some, same_Some, false≢true, bytes_eq-Decides, get_or_from_slice_get}
 use Rattle.eco_entities.proofs.Common.{slice_cmp, is_eq, nat_cmp, ordering_then, Entity, hash_of, key_cmp, is_key_of, found_by, borne_by, tag_of, Points}
 use Rattle.eco_entities.proofs.Common.{by_ranked, ranked, Key, Bearer, Cell, All, All-head, All-tail, remove}
-use Rattle.eco_entities.proofs.Common.{at_drop_more, slice_get-get_or, BTreeMap, Gathers, IsCellOf, Kept, UpdatesBy, cases_Bool, found_in}
+use Rattle.eco_entities.proofs.Common.{at_drop_more, slice_get-get_or, BTreeMap, Gathers, IsCellOf, BucketState, UpdatesBy, cases_Bool, found_in}
 use Rattle.eco_entities.proofs.Common.{found_spilled, inl, inr}
 use Rattle.eco_entities.proofs.Common.{is_at, lookup, take, All-append, All-drop, All-get_or, All-take, slice_get-push_last}
 use Rattle.std.specs.Cmp.Lexicographic.{pointwise}
@@ -246,7 +246,7 @@ or_moved None (Some y) b true free other = absurd (none-some y (sym (free refl))
 or_moved None (Some y) b false free other = ap (λ o. option_or o (Some y)) (other refl)
 
 -- a bearer and a cell that leads to it
-pub cell_pushed : (bearers : List Bearer) (kept : Kept) (b : Bearer) (c : Cell) → c.place ≡ length bearers → All (Points bearers) kept.0
+pub cell_pushed : (bearers : List Bearer) (kept : BucketState) (b : Bearer) (c : Cell) → c.place ≡ length bearers → All (Points bearers) kept.0
     → ((text : List ℕ) → is_key_of text b.key ≡ true → found_in bearers kept text ≡ None)
     → Gathers (found_in bearers kept) (borne_by b) (found_in (bearers ++ b ∷ []) (kept.0 ++ c ∷ [], kept.1))
 cell_pushed bearers kept b c last points free = record {
@@ -267,7 +267,7 @@ nobody : {X : Type 0} (r : Option X) → is_some r ≡ false → r ≡ None
 nobody None h = refl
 nobody (Some x) h = absurd (false≢true (sym h))
 
-pub claimed_cell : (bearers bearers' : List Bearer) (cells cells' : List Cell) (spilled : List (Key × Entity)) (old : Kept) (b : Bearer) (c : Cell)
+pub claimed_cell : (bearers bearers' : List Bearer) (cells cells' : List Cell) (spilled : List (Key × Entity)) (old : BucketState) (b : Bearer) (c : Cell)
     (r : Option Entity)
     → (cells, spilled) ≡ old → bearers' ≡ bearers ++ b ∷ [] → cells' ≡ cells ++ c ∷ [] → c.place ≡ length bearers
     → All (Points bearers) old.0
@@ -306,7 +306,7 @@ no_more [] h = refl
 no_more (x ∷ xs) h = absurd (omega (arith, h))
 
 -- one more cell, where the tree is empty
-pub cell_kept : (bearers : List Bearer) (cells cells' : List Cell) (spilled : List (Key × Entity)) (old : Kept) (c : Cell) → (cells, spilled) ≡ old
+pub cell_kept : (bearers : List Bearer) (cells cells' : List Cell) (spilled : List (Key × Entity)) (old : BucketState) (c : Cell) → (cells, spilled) ≡ old
     → cells' ≡ cells ++ c ∷ [] → length spilled ≡ 0
     → Gathers (found_in bearers old) (found_by bearers (c ∷ [])) (found_in bearers (cells', spilled))
 cell_kept bearers cells cells' spilled old c view pushed empty = record {

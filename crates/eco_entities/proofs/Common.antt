@@ -27,7 +27,7 @@ pub use Rattle.std.specs.Prelude.{MatchResult, OnErr, OnOk, String, T, string_by
 pub use Rattle.std.specs.Str.{bytes_eq}
 pub use Rattle.std.specs.declared.cmp.Ordering.TheVariants.{Equal, Greater, Less}
 pub use Rattle.eco_entities.specs.Changes.{ChangesAt, KeepsAnswers}
-pub use Rattle.eco_entities.specs.Keys.{AllPoint, Gathers, IsCellOf, IsCellless, IsTable, Kept, Points, borne_by, bucket_of, found_among, found_by}
+pub use Rattle.eco_entities.specs.Keys.{AllPoint, Gathers, IsCellOf, IsCellless, IsTable, BucketState, Points, borne_by, bucket_of, found_among, found_by}
 pub use Rattle.eco_entities.specs.Keys.{found_in, found_in_turn, found_spilled, hash_of, is_key_of, key_cmp, tag_of, text_cmp}
 pub use Rattle.eco_entities.specs.Label.{label_text}
 pub use Rattle.eco_entities.specs.Labels.{label_of}

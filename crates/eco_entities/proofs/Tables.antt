@@ -6,7 +6,7 @@ use Rattle.eco_entities.proofs.Common.{inr, Result, Ok, Err}
 use Rattle.eco_entities.proofs.Common.{OnOk, OnErr, IfOk, same_Some, false≢true, cases_eq, cases_Bool, get_or_from_slice_get, slice_get_within}
 use Rattle.eco_entities.proofs.Common.{slice_get-set_other, slice_get-set_there, slice_get_read, All, All-get_or, All-nil, All-set, All-weaker}
 use Rattle.eco_entities.proofs.Common.{Entity, ChangesAt, KeepsAnswers}
-use Rattle.eco_entities.proofs.Common.{AllPoint, Bearer, Gathers, IsTable, Kept, Key, Points, borne_by, bucket_of, found_among, found_in}
+use Rattle.eco_entities.proofs.Common.{AllPoint, Bearer, Gathers, IsTable, BucketState, Key, Points, borne_by, bucket_of, found_among, found_in}
 use Rattle.eco_entities.proofs.Common.{found_in_turn, found_spilled}
 use Rattle.eco_entities.proofs.Common.{hash_of, is_key_of, Claims, IsBorne, IsFree}
 use Rattle.eco_entities.proofs.Common.{◌-◌, none-some, option_map, found_by, tag_of, Cell}
@@ -29,12 +29,12 @@ is_borne b text h = by (is_key_of text b.key) h
 pub not_borne : (b : Bearer) (text : List ℕ) → is_key_of text b.key ≡ false → borne_by b text ≡ None
 not_borne b text h = ap (λ t. cond t (Some b.entity) None) h
 
-pub among_read : (buckets : List Kept) (bearers : List Bearer) (text : List ℕ) (n : ℕ) (b : Kept) → n ≡ bucket_of (hash_of text) (length buckets)
+pub among_read : (buckets : List BucketState) (bearers : List Bearer) (text : List ℕ) (n : ℕ) (b : BucketState) → n ≡ bucket_of (hash_of text) (length buckets)
     → slice_get buckets n ≡ Some b → found_among (buckets, bearers) text ≡ found_in bearers b text
 among_read buckets bearers text n b is there = ap (option_and_then (λ b. found_in bearers b text)) (ap (slice_get buckets) (sym is) ∙ there)
 
 -- the bucket that is read at a place
-pub read_bucket : (buckets : List Kept) (n count : ℕ) (b : Kept) → n < count → count ≡ length buckets → b ≡ get_or buckets n b
+pub read_bucket : (buckets : List BucketState) (n count : ℕ) (b : BucketState) → n < count → count ≡ length buckets → b ≡ get_or buckets n b
     → slice_get buckets n ≡ Some b
 read_bucket buckets n count b low counted is = slice_get_read buckets (length buckets) n b refl (omega (arith, low, counted)) is
 
@@ -43,15 +43,15 @@ pub place_is : (hash : ℕ) (text : List ℕ) (n count buckets : ℕ) → n ≡ 
     → n ≡ bucket_of (hash_of text) buckets
 place_is hash text n count buckets is hashed counted = is ∙ (ap (λ h. bucket_of h count) hashed ∙ ap (bucket_of (hash_of text)) counted)
 
-module _ (buckets : List Kept) (bearers bearers' more : List Bearer) (n : ℕ) (old new : Kept) (table : IsTable buckets bearers)
+module _ (buckets : List BucketState) (bearers bearers' more : List Bearer) (n : ℕ) (old new : BucketState) (table : IsTable buckets bearers)
     (there : slice_get buckets n ≡ Some old) (longer : bearers' ≡ bearers ++ more) (points : AllPoint bearers' new) where
   abbrev pub picked : List ℕ → ℕ
   picked text = bucket_of (hash_of text) (length buckets)
 
-  kept_still : (b : Kept) (text : List ℕ) → AllPoint bearers b → found_in bearers' b text ≡ found_in bearers b text
+  kept_still : (b : BucketState) (text : List ℕ) → AllPoint bearers b → found_in bearers' b text ≡ found_in bearers b text
   kept_still b text all = ap (λ bs. found_in bs b text) longer ∙ ap (λ o. option_or o (found_spilled b.1 text)) (found_still bearers more b.0 text all)
 
-  point_at : (i : ℕ) (b : Kept) → slice_get buckets i ≡ Some b → AllPoint bearers b
+  point_at : (i : ℕ) (b : BucketState) → slice_get buckets i ≡ Some b → AllPoint bearers b
   point_at i b h = subst (AllPoint bearers) (get_or_from_slice_get buckets i b b h)
       (All-get_or (AllPoint bearers) buckets i b (slice_get_within buckets i b h) table.point)
 
@@ -72,7 +72,7 @@ module _ (buckets : List Kept) (bearers bearers' more : List Bearer) (n : ℕ) (
       ∙ (ap (option_and_then (λ b. found_in bearers' b text)) (slice_get-set_other buckets n (picked text) new (λ e. away (sym e)))
       ∙ still (slice_get buckets (picked text)) refl)
     where
-      still : (o : Option Kept) → slice_get buckets (picked text) ≡ o
+      still : (o : Option BucketState) → slice_get buckets (picked text) ≡ o
           → option_and_then (λ b. found_in bearers' b text) o ≡ option_and_then (λ b. found_in bearers b text) o
       still None at = refl
       still (Some b) at = kept_still b text (point_at (picked text) b at)
@@ -167,13 +167,13 @@ nil_right [] = refl
 nil_right (x ∷ xs) = ap (λ ys. x ∷ ys) (nil_right xs)
 
 -- no buckets
-pub none_among : (buckets : List Kept) (bearers : List Bearer) (text : List ℕ) → length buckets ≡ 0 → found_among (buckets, bearers) text ≡ None
+pub none_among : (buckets : List BucketState) (bearers : List Bearer) (text : List ℕ) → length buckets ≡ 0 → found_among (buckets, bearers) text ≡ None
 none_among [] bearers text h = refl
 none_among (b ∷ bs) bearers text h = absurd (omega (arith, h))
 
 -- empty ones
-module _ (buckets : List Kept) (bearers : List Bearer) (empty : All (λ b. b ≡ ([], [])) buckets) where
-  nothing : (i : ℕ) (b : Kept) (text : List ℕ) → slice_get buckets i ≡ Some b → found_in bearers b text ≡ None
+module _ (buckets : List BucketState) (bearers : List Bearer) (empty : All (λ b. b ≡ ([], [])) buckets) where
+  nothing : (i : ℕ) (b : BucketState) (text : List ℕ) → slice_get buckets i ≡ Some b → found_in bearers b text ≡ None
   nothing i b text at = ap (λ k. found_in bearers k text) (sym (get_or_from_slice_get buckets i b b at)
       ∙ All-get_or (λ k. k ≡ ([], [])) buckets i b (slice_get_within buckets i b at) empty)
 
@@ -186,14 +186,14 @@ module _ (buckets : List Kept) (bearers : List Bearer) (empty : All (λ b. b ≡
   pub empty_among : KeepsAnswers (λ _. None) (found_among (buckets, bearers))
   empty_among = record { all = λ text. by text (slice_get buckets (bucket_of (hash_of text) (length buckets))) refl }
     where
-      by : (text : List ℕ) (o : Option Kept) → slice_get buckets (bucket_of (hash_of text) (length buckets)) ≡ o
+      by : (text : List ℕ) (o : Option BucketState) → slice_get buckets (bucket_of (hash_of text) (length buckets)) ≡ o
           → option_and_then (λ b. found_in bearers b text) o ≡ None
       by text None at = refl
       by text (Some b) at = nothing _ b text at
 
 -- all buckets in turn find who is found in the one that is picked
-found_one : (bearers : List Bearer) (buckets : List Kept) (text : List ℕ) (m : ℕ)
-    → ((i : ℕ) (b : Kept) → slice_get buckets i ≡ Some b → is_some (found_in bearers b text) ≡ true → m ≡ i)
+found_one : (bearers : List Bearer) (buckets : List BucketState) (text : List ℕ) (m : ℕ)
+    → ((i : ℕ) (b : BucketState) → slice_get buckets i ≡ Some b → is_some (found_in bearers b text) ≡ true → m ≡ i)
     → found_in_turn bearers buckets text ≡ option_and_then (λ b. found_in bearers b text) (slice_get buckets m)
 found_one bearers [] text m only = refl
 found_one bearers (b ∷ bs) text zero only =
@@ -203,14 +203,14 @@ found_one bearers (b ∷ bs) text zero only =
     no_zero : (i : ℕ) → zero ≢ suc i
     no_zero i h = omega (arith, h)
 
-    empty : (c : Kept) → (is_some (found_in bearers c text) ≢ true) → found_in bearers c text ≡ None
+    empty : (c : BucketState) → (is_some (found_in bearers c text) ≢ true) → found_in bearers c text ≡ None
     empty c not_found = by (found_in bearers c text) refl
       where
         by : (o : Option Entity) → found_in bearers c text ≡ o → o ≡ None
         by None is = refl
         by (Some e) is = absurd (not_found (ap is_some is))
 
-    none : (cs : List Kept) → ((i : ℕ) (c : Kept) → slice_get cs i ≡ Some c → found_in bearers c text ≡ None)
+    none : (cs : List BucketState) → ((i : ℕ) (c : BucketState) → slice_get cs i ≡ Some c → found_in bearers c text ≡ None)
         → found_in_turn bearers cs text ≡ None
     none [] all = refl
     none (c ∷ cs) all = ap (λ o. option_or o (found_in_turn bearers cs text)) (all zero c refl) ∙ none cs (λ i. all (suc i))
@@ -222,7 +222,7 @@ found_one bearers (b ∷ bs) text (suc m) only =
     by None is = refl
     by (Some e) is = absurd (omega (arith, only zero b refl (ap is_some is)))
 
-pub in_turn : (buckets : List Kept) (bearers : List Bearer) → IsTable buckets bearers
+pub in_turn : (buckets : List BucketState) (bearers : List Bearer) → IsTable buckets bearers
     → KeepsAnswers (found_among (buckets, bearers)) (found_in_turn bearers buckets)
 in_turn buckets bearers table = record {
   all = λ text. found_one bearers buckets text (bucket_of (hash_of text) (length buckets)) (λ i b at. table.placed i b text at);
@@ -285,7 +285,7 @@ pub gathers_more : (was now one rest all old : Option Entity) → now ≡ option
 gathers_more was now one rest all old gain before = ap (λ o. option_or o rest) gain ∙ (or_assoc was one rest ∙ before)
 
 -- one more cell of a bucket
-module _ (buckets : List Kept) (bearers : List Bearer) (n : ℕ) (old new : Kept) (c : Cell) (table : IsTable buckets bearers)
+module _ (buckets : List BucketState) (bearers : List Bearer) (n : ℕ) (old new : BucketState) (c : Cell) (table : IsTable buckets bearers)
     (there : slice_get buckets n ≡ Some old) (points : AllPoint bearers new) (leads : Points bearers c)
     (here : n ≡ bit_and c.tag (length buckets - 1)) (gain : Gathers (found_in bearers old) (found_by bearers (c ∷ [])) (found_in bearers new)) where
   led : (o : Option Bearer) → slice_get bearers c.place ≡ o → option_map (λ b. tag_of b.key.hash) o ≡ Some c.tag

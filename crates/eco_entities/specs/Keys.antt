@@ -55,20 +55,20 @@ abbrev pub found_spilled : List (Key × Entity) → List ℕ → Option Entity
 found_spilled spilled text = lookup (is_at (text_cmp text)) spilled
 
 -- what a bucket keeps: cells, and a tree of the names that found none
-abbrev pub Kept : Type 0
-Kept = List Cell × List (Key × Entity)
+abbrev pub BucketState : Type 0
+BucketState = List Cell × List (Key × Entity)
 
 -- in a bucket: through its cells, or else in its tree
-abbrev pub found_in : List Bearer → Kept → List ℕ → Option Entity
+abbrev pub found_in : List Bearer → BucketState → List ℕ → Option Entity
 found_in bearers bucket text = option_or (found_by bearers bucket.0 text) (found_spilled bucket.1 text)
 
 -- in buckets one after the other
-abbrev pub found_in_turn : List Bearer → List Kept → List ℕ → Option Entity
+abbrev pub found_in_turn : List Bearer → List BucketState → List ℕ → Option Entity
 found_in_turn bearers [] text = None
 found_in_turn bearers (b ∷ bs) text = option_or (found_in bearers b text) (found_in_turn bearers bs text)
 
 -- in a table: in the bucket that its hash picks
-abbrev pub found_among : List Kept × List Bearer → List ℕ → Option Entity
+abbrev pub found_among : List BucketState × List Bearer → List ℕ → Option Entity
 found_among table text =
     option_and_then (λ b. found_in table.1 b text) (slice_get table.0 (bucket_of (hash_of text) (length table.0)))
 
@@ -77,13 +77,13 @@ abbrev pub Points : List Bearer → Cell → Type 0
 Points bearers c = option_map (λ b. tag_of b.key.hash) (slice_get bearers c.place) ≡ Some c.tag
 
 -- each cell of a bucket does
-abbrev pub AllPoint : List Bearer → Kept → Type 0
+abbrev pub AllPoint : List Bearer → BucketState → Type 0
 AllPoint bearers bucket = All (Points bearers) bucket.0
 
 -- each cell of a table does, and who is found in a bucket is in the one that is picked
-pub record IsTable (buckets : List Kept) (bearers : List Bearer) : Type 0 where
+pub record IsTable (buckets : List BucketState) (bearers : List Bearer) : Type 0 where
   pub point : All (AllPoint bearers) buckets
-  pub placed : (i : ℕ) (b : Kept) (text : List ℕ) → slice_get buckets i ≡ Some b → is_some (found_in bearers b text) ≡ true
+  pub placed : (i : ℕ) (b : BucketState) (text : List ℕ) → slice_get buckets i ≡ Some b → is_some (found_in bearers b text) ≡ true
       → bucket_of (hash_of text) (length buckets) ≡ i
 
 -- who was found is found, and besides who is found under more

@@ -6,10 +6,10 @@ use Rattle.eco_ids.specs.Names.{is_proper}
 use Rattle.eco_entities.specs.declared.names.Names.{Names}
 use Rattle.eco_entities.specs.declared.bucket.Bearer.{Bearer}
 use Rattle.eco_entities.specs.Changes.{ChangesAt, KeepsAnswers}
-use Rattle.eco_entities.specs.Keys.{found_among, Kept}
+use Rattle.eco_entities.specs.Keys.{found_among, BucketState}
 
 -- the entity that is found under a short name
-abbrev pub short_entity_of : List Kept × List Bearer → List ℕ → Option Entity
+abbrev pub short_entity_of : List BucketState × List Bearer → List ℕ → Option Entity
 short_entity_of names = found_among names
 
 -- the entity that is found under a name

@@ -37,9 +37,9 @@ pub(crate) struct Bucket {
 }
 
 impl Model for Bucket {
-    ghost use Rattle.eco_entities.specs.Keys.{Kept};
+    ghost use Rattle.eco_entities.specs.Keys.{BucketState};
 
-    ghost Value = { Kept };
+    ghost Value = { BucketState };
 
     ghost view = { λ b. (b.cells.items, b.spilled.entries) };
 }

@@ -24,10 +24,10 @@ pub(crate) struct ShortNames {
 
 impl Model for ShortNames {
     ghost use Rattle.std.specs.Prelude.{List};
-    ghost use Rattle.eco_entities.specs.Keys.{IsTable, Kept};
+    ghost use Rattle.eco_entities.specs.Keys.{IsTable, BucketState};
     ghost use Rattle.eco_entities.specs.declared.bucket.Bearer.{Bearer};
 
-    ghost Value = { List Kept × List Bearer };
+    ghost Value = { List BucketState × List Bearer };
 
     ghost view = { λ n. (n.buckets.items, n.bearers.items) };
 

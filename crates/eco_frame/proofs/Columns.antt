@@ -18,7 +18,7 @@ use Rattle.eco_systems.specs.Rows.{shows_values, valued}
 use Rattle.eco_world.specs.declared.table_rows.TableRows.{TableRows}
 use Rattle.eco_frame.specs.declared.column.Column.{Column}
 use Rattle.eco_frame.specs.declared.row_columns.RowColumns.{RowColumns}
-use Rattle.eco_frame.specs.Rows.{IsRun, LendsRows, entities_in, lent_in, row_in, shown_in}
+use Rattle.eco_frame.specs.Rows.{IsRun, LendsRows, entities_in, lent_in, run_row, shown_in}
 
 -- ---- the values of entries
 
@@ -92,7 +92,7 @@ row_shown w q rows place e es vs are own listed shown =
 pub run_shows : (c : RowColumns) → IsRun c → (row place : ℕ) (e : Entity) → slice_get c.entities.now row ≡ Some e
     → option_map (λ (r : ValuedRow). r.entity) (slice_get c.rows.now place) ≡ Some e
     → option_map (λ (r : ValuedRow). r.entries) (slice_get c.rows.now c.place) ≡ option_map (λ (r : ValuedRow). r.entries) (slice_get c.rows.now place)
-    → slice_get c.rows.now place ≡ Some (row_in c row e)
+    → slice_get c.rows.now place ≡ Some (run_row c row e)
 run_shows c run row place e at own shared =
     let shown = run.shown row e at in
     row_shown c.world.now c.query.now c.rows.now place e c.entries.now (map (shown_in row) c.columns.items) run.rows own

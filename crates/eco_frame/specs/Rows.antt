@@ -62,8 +62,8 @@ abbrev pub column_row : ColumnRow → ValuedRow
 column_row r = record { entity = r.entity; entries = r.entries.now; values = map (shown_in r.row) r.columns.now }
 
 -- the row that columns show of an entity that stands in this row of their table
-abbrev pub row_in : RowColumns → ℕ → Entity → ValuedRow
-row_in c row e = record { entity = e; entries = c.entries.now; values = map (shown_in row) c.columns.items }
+abbrev pub run_row : RowColumns → ℕ → Entity → ValuedRow
+run_row c row e = record { entity = e; entries = c.entries.now; values = map (shown_in row) c.columns.items }
 
 -- the columns show of an entity in a row what the world has for the entries, which are those of the row for which they were looked for
 pub record IsShownOf (c : RowColumns) (row : ℕ) (e : Entity) : Type 0 where

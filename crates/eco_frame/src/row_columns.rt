@@ -4,7 +4,7 @@ ghost use Rattle.std.specs.Prelude.{IfNone, IfSome, IsTrue, None, OnOk, Some};
 ghost use Rattle.eco_ids.specs.World.{record_of};
 ghost use Rattle.eco_query.specs.Queries.{slot_view};
 ghost use Rattle.eco_systems.specs.Rows.{entry_values, valued_rows};
-ghost use Rattle.eco_frame.specs.Rows.{IsRun, LendsRows, column_row, entities_in, lent_in, row_in, shown_in};
+ghost use Rattle.eco_frame.specs.Rows.{IsRun, LendsRows, column_row, entities_in, lent_in, run_row, shown_in};
 
 use crate::column::Column;
 use crate::column_row::ColumnRow;
@@ -114,7 +114,7 @@ impl<'a> RowColumns<'a> {
         requires run { IsRun self.now }
         requires place { place < length self.now.rows.now }
         requires own { option_map (λ r. r.entity) (slice_get self.now.rows.now place) ≡ Some entity }
-        ensures { IsTrue result → slice_get self.now.rows.now place ≡ Some (row_in self.now row entity) }
+        ensures { IsTrue result → slice_get self.now.rows.now place ≡ Some (run_row self.now row entity) }
     {
         match self.entities.get(row) {
             Some(other) => other.is(entity) && self.rows.share_entries(self.place, place),
@@ -137,7 +137,7 @@ impl<'a> RowColumns<'a> {
         ensures rows { self.new.rows.now ≡ self.old.rows.now }
         ensures run { OnOk result (IsRun self.new) }
         ensures at { OnOk result (slice_get self.new.rows.now place
-            ≡ Some (row_in self.new self.new.row self.new.entity)) }
+            ≡ Some (run_row self.new self.new.row self.new.entity)) }
     {
         let entries = self.rows.entries(place);
         self.columns.clear();
@@ -159,7 +159,7 @@ impl<'a> RowColumns<'a> {
         ensures rows { self.new.rows.now ≡ self.old.rows.now }
         ensures run { OnOk result (IsRun self.new) }
         ensures at { OnOk result (slice_get self.new.rows.now place
-            ≡ Some (row_in self.new self.new.row self.new.entity)) }
+            ≡ Some (run_row self.new self.new.row self.new.entity)) }
     {
         let found = self.world.table_of(self.entity);
         let row = row_in(&found);
@@ -178,7 +178,7 @@ impl<'a> RowColumns<'a> {
         ensures rows { self.new.rows.now ≡ self.old.rows.now }
         ensures run { OnOk result (IsRun self.new) }
         ensures at { OnOk result (slice_get self.new.rows.now place
-            ≡ Some (row_in self.new self.new.row self.new.entity)) }
+            ≡ Some (run_row self.new self.new.row self.new.entity)) }
     {
         self.entity = self.rows.entity(place);
         // Rows mostly stand in a table as they come.

@@ -63,7 +63,7 @@ pub use Rattle.eco_index.specs.TypeMap.{same_ids}
 pub use Rattle.eco_store.specs.Deaths.{after_deaths, death_at, with_deaths}
 pub use Rattle.eco_store.specs.Holders.{entities_whose, passes}
 pub use Rattle.eco_store.specs.Layout.{Carries, IsLaid, IsLaidBeside, IsLaidBut, IsSettled, LosesRows, MovesRow, Plans, PutsRow, RetypesRow, SetsRows, TakesRow}
-pub use Rattle.eco_store.specs.Layout.{Turns, rows_in, seen}
+pub use Rattle.eco_store.specs.Layout.{TurnsTable, rows_in, seen}
 pub use Rattle.eco_store.specs.Moving.{AdmitsRow, AreMovesReady, AreTyped, HasRoomFor, LeavesRoom, after_move, after_moves, arriving}
 pub use Rattle.eco_store.specs.Placing.{fixed}
 pub use Rattle.eco_store.specs.Ranking.{AreRanked, IsNumbering, StandsIn, in_first, slot_number, standing_by, standing_from, standing_of, standings}

@@ -4,7 +4,7 @@ use Rattle.eco_store.proofs.Common.{slice_get, Option, Some, option_map, unwrap_
 use Rattle.eco_store.proofs.Common.{MatchBool, list_any, set_comm, Entity, Id, changed, change_kept, is_alive, record_in, record_of, with_record, Indexed}
 use Rattle.eco_store.proofs.Common.{Living, slice_get-set_other, living_at, same_parts, Place, Registration, own_place, retyped, TableState, table_in}
 use Rattle.eco_store.proofs.Common.{no_table, AllHaveIds, toggled, KeepsRoom, KeepsTypes, MayTakeType, SameSlots, StillCover, rows_from_slots, Layout, seen}
-use Rattle.eco_store.proofs.Common.{IsLaid, arriving, AdmitsRow, LeavesRoom, Turns, all_staying, read, record_ids, stepped, type_in_store, with_toggled}
+use Rattle.eco_store.proofs.Common.{IsLaid, arriving, AdmitsRow, LeavesRoom, TurnsTable, all_staying, read, record_ids, stepped, type_in_store, with_toggled}
 use Rattle.eco_store.proofs.Laid.{laid_slots}
 use Rattle.eco_store.proofs.Stepping.{leads_to, standing_type}
 use Rattle.eco_store.proofs.StoreChanges.{row_within, same_read}
@@ -71,7 +71,7 @@ module _ (l : Layout) (s : List (Option TableState)) (e : Entity) (p : Place) (i
 
   -- it takes the entity's next type, or stays as it was
   pub may_turn : {E : Type 0} (r : Result Bool E) → IfOk r (MayTakeType l.archetypes s p.table ids) → OnErr r (SameSlots l.archetypes s)
-      → Turns l turned (e, i) p.table r
+      → TurnsTable l turned (e, i) p.table r
   may_turn (Ok true) takes err =
       let retypes = takes_row l.archetypes s p ids takes.0 takes.1 (row_within l.entities l.archetypes e p laid.store own) in
       record {

@@ -56,7 +56,7 @@ pub record StepsBeside {A E : Type 0} (old new : Layout) (step : Entity × Id) (
   pub kept : OnOk r (LeavesRoom old.archetypes new.archetypes n)
 
 -- the table in a slot took the next type of the only entity in it, or no slot has changed
-pub record Turns {E : Type 0} (old new : Layout) (step : Entity × Id) (n : ℕ) (r : Result Bool E) : Type 0 where
+pub record TurnsTable {E : Type 0} (old new : Layout) (step : Entity × Id) (n : ℕ) (r : Result Bool E) : Type 0 where
   pub laid : IsLaid new
   pub entities : new.entities ≡ old.entities
   pub staying : new.staying ≡ record old.staying { idle = new.staying.idle }

@@ -5,7 +5,7 @@ ghost use Rattle.std.specs.List.{list_any};
 ghost use Rattle.eco_entities.specs.Registration.{own_place};
 ghost use Rattle.eco_ids.specs.Indices.{is_alive};
 ghost use Rattle.eco_ids.specs.Order.{entity_eq};
-ghost use Rattle.eco_store.specs.Layout.{seen, Attempts, IsLaid, StepsBeside, Turns};
+ghost use Rattle.eco_store.specs.Layout.{seen, Attempts, IsLaid, StepsBeside, TurnsTable};
 ghost use Rattle.eco_store.specs.Store.{stepped};
 ghost use Rattle.eco_tables.specs.Tables.{table_in};
 
@@ -90,7 +90,7 @@ impl Layout {
     pub(crate) fn turn(&mut self, step: (Entity, Id), place: Place) -> Result<bool, AllocError>
         requires laid { IsLaid self.old }
         requires own { own_place self.old.entities step.0 ≡ Some place }
-        ensures { Turns self.old self.new step place.table result }
+        ensures { TurnsTable self.old self.new step place.table result }
     {
         self.archetypes.tables().rows_have_ids();
         self.archetypes

@@ -169,18 +169,21 @@ cell_taken bearers cells i low points d b is text =
     ∙ ap (λ o. option_or (option_and_then (λ x. borne_by x text) o) (found_by bearers (drop (i + 1) cells) text))
     (read_there bearers (get_or cells i d) b (All-get_or (Points bearers) cells i d low points) is)
 
-module _ (bearers : List Bearer) (cells : List Cell) (key : Key) (place : ℕ) (c : Cell) (low : place < length cells) (is : c ≡ get_or cells place c)
-    (before : (text : List ℕ) → is_key_of text key ≡ true → found_by bearers (drop place cells) text ≡ found_by bearers cells text) where
+-- the cell at a place before which none leads to the name
+module _ (bearers : List Bearer) (cells : List Cell) (key : Key) (place : ℕ) (low : place < length cells)
+    (before : (text : List ℕ) → is_key_of text key ≡ true → found_by bearers (drop place cells) text ≡ found_by bearers cells text) (d : Cell) where
+  abbrev c : Cell
+  c = get_or cells place d
+
   there : slice_get cells place ≡ Some c
-  there = slice_get-get_or cells place c low ∙ ap Some (sym is)
+  there = slice_get-get_or cells place d low
 
   from_here : (text : List ℕ) → is_key_of text key ≡ true
       → found_by bearers cells text ≡ option_or (at_cell bearers c text) (found_by bearers (drop (place + 1) cells) text)
-  from_here text own = sym (before text own) ∙ (at_drop_more (λ cs. found_by bearers cs text) cells place c low
-      ∙ ap (λ e. option_or (at_cell bearers e text) (found_by bearers (drop (place + 1) cells) text)) (sym is))
+  from_here text own = sym (before text own) ∙ at_drop_more (λ cs. found_by bearers cs text) cells place d low
 
   -- the cell leads to a bearer of the name
-  pub is_cell : leads_to bearers key c ≡ Some true → IsCellOf bearers cells key place
+  pub is_cell : leads_to bearers key (get_or cells place d) ≡ Some true → IsCellOf bearers cells key place
   is_cell leads = record {
     within = low;
     found = λ text own. found text own (slice_get bearers c.place) refl leads
@@ -203,7 +206,7 @@ module _ (bearers : List Bearer) (cells : List Cell) (key : Key) (place : ℕ) (
           ∙ sym (ap (option_map (λ b. b.entity)) at))
 
   -- it leads to another
-  pub cell_passed : leads_to bearers key c ≡ Some false
+  pub cell_passed : leads_to bearers key (get_or cells place d) ≡ Some false
       → (text : List ℕ) → is_key_of text key ≡ true → found_by bearers (drop (place + 1) cells) text ≡ found_by bearers cells text
   cell_passed misses text own =
       sym (from_here text own ∙ ap (λ o. option_or o (found_by bearers (drop (place + 1) cells) text)) (cell_misses bearers key text c own misses))
@@ -281,18 +284,6 @@ claimed_cell bearers bearers' cells cells' spilled old b c r view more pushed la
 
 pub all_without : {X : Type 0} (P : X → Type 0) (xs ys : List X) (i : ℕ) → ys ≡ remove xs i → All P xs → All P ys
 all_without P xs ys i is all = subst (All P) (sym is) (All-append P (take i xs) (drop (suc i) xs) (All-take P i xs all) (All-drop P (suc i) xs all))
-
-module _ (bearers : List Bearer) (cells : List Cell) (key : Key) (place : ℕ) (low : place < length cells)
-    (before : (text : List ℕ) → is_key_of text key ≡ true → found_by bearers (drop place cells) text ≡ found_by bearers cells text) (d : Cell) where
-  at_default : get_or cells place d ≡ get_or cells place (get_or cells place d)
-  at_default = sym (get_or_from_slice_get cells place (get_or cells place d) (get_or cells place d) (slice_get-get_or cells place d low))
-
-  pub is_cell_at : leads_to bearers key (get_or cells place d) ≡ Some true → IsCellOf bearers cells key place
-  is_cell_at = is_cell bearers cells key place (get_or cells place d) low at_default before
-
-  pub passed_at : leads_to bearers key (get_or cells place d) ≡ Some false
-      → (text : List ℕ) → is_key_of text key ≡ true → found_by bearers (drop (place + 1) cells) text ≡ found_by bearers cells text
-  passed_at = cell_passed bearers cells key place (get_or cells place d) low at_default before
 
 -- the cell at a place, and those after it
 pub cells_more : (bearers : List Bearer) (cells : List Cell) (i : ℕ) → i < length cells → (d : Cell) (text : List ℕ)

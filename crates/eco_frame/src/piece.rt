@@ -65,8 +65,8 @@ fn record_between<B: SystemBody, D: Draws>(
     Ok(())
 }
 
-// Records the same, where the columns of their tables are looked for once for rows that follow one another. It stops where there
-// is no memory to list them, too.
+// Records the same, where columns are looked for once for rows of one table that follow one another. It stops where there is no
+// memory to list them, too.
 #[inline(never)]
 fn record_in_columns<'a, B: SystemBody, D: Draws>(
     body: &B,

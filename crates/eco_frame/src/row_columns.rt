@@ -193,7 +193,7 @@ impl<'a> RowColumns<'a> {
     /// The row that was sought last.
     #[inline(always)]
     pub(crate) fn row(&self) -> ColumnRow<'_>
-        ensures { column_row result ≡ row_in self.now self.now.row self.now.entity }
+        ensures { column_row result ≡ run_row self.now self.now.row self.now.entity }
     {
         ColumnRow {
             entity: self.entity,

@@ -255,19 +255,36 @@ someone : (es : List Entity) → es ≢ [] → (e : Entity) × Contains es e
 someone [] some = absurd (some refl)
 someone (e ∷ es) some = (e, here e es)
 
+-- tables of the world are among those of a layout, if there are tables of all types
+layout_over : (w : WorldState) (tables others : List ListedTable) → IsTrue (is_ascending by_type tables)
+    → ((t : ListedTable) → Contains tables t → IsTable w t) → Covers w (λ _. true) others → IsLayout w (grown tables others)
+layout_over w tables others up each rest = layout_of w (grown tables others) (grown_ascends tables others up) (record {
+  each = λ t p. elim (grown_cases tables others t p) as (λ _. IsTable w t) [ inl c ↦ each t c | inr c ↦ rest.each t c ];
+  all = λ e alive passed.
+      let found = rest.all e alive refl in
+      let grows = grown_there tables others found.0 found.1 in
+      (grows.0, grows.1, grows.2 ∙ found.2);
+})
+
+-- so is one alone
+pub layout_with : (w : WorldState) (t : ListedTable) (others : List ListedTable) → IsTable w t → Covers w (λ _. true) others
+    → (layout : List ListedTable) × IsLayout w layout × Contains layout t
+layout_with w t others own rest = (
+  grown (t ∷ []) others,
+  layout_over w (t ∷ []) others refl (λ u p. subst (IsTable w) (only u p) own) rest,
+  grown_keeps (t ∷ []) others t (here t []),
+)
+  where
+    only : (u : ListedTable) → Contains (t ∷ []) u → t ≡ u
+    only u p = elim (element_cases t u [] p) as (λ _. t ≡ u) [ inl e ↦ e | inr c ↦ absurd (no_element u c) ]
+
 -- tables of the types that pass are those of a layout, if there are tables of all types
 pub layout_around : (w : WorldState) (passes : List Id → Bool) (tables others : List ListedTable) → IsTrue (is_ascending by_type tables)
     → Covers w passes tables → ((t : ListedTable) → Contains tables t → passes t.ids ≡ true) → Covers w (λ _. true) others
     → (layout : List ListedTable) × IsLayout w layout × (tables ≡ filter (λ t. passes t.ids) layout)
 layout_around w passes tables others up covers picked rest = (
   grown tables others,
-  layout_of w (grown tables others) (grown_ascends tables others up) (record {
-    each = λ t p. elim (grown_cases tables others t p) as (λ _. IsTable w t) [ inl c ↦ covers.each t c | inr c ↦ rest.each t c ];
-    all = λ e alive passed.
-        let found = rest.all e alive refl in
-        let grows = grown_there tables others found.0 found.1 in
-        (grows.0, grows.1, grows.2 ∙ found.2);
-  }),
+  layout_over w tables others up covers.each rest,
   sym (grown_filtered (λ t. passes t.ids) tables others up had ∙ passing_stay (λ t. passes t.ids) tables picked),
 )
   where

@@ -5,7 +5,7 @@ use Rattle.eco_world.proofs.Common.{Contains-permutation, IsPermutation-sym, ari
 use Rattle.eco_world.proofs.Common.{held_by, record_of, Id, value_in, TableState, TableRow, entities_of, width_in, no_table, table_in, KeepData, IsShown}
 use Rattle.eco_world.proofs.Common.{Stands, TableRows, IsWhole, LendsValues, column_in, lent, lent_at, lent_of}
 use Rattle.eco_world.proofs.Common.{true≢false, false, Bool, Value, zero, Entity, none-some, same_Some, slice_get-map, slice_get_within, find, keys_find}
-use Rattle.eco_world.proofs.Common.{if◌then◌else◌}
+use Rattle.eco_world.proofs.Common.{if◌then◌else◌, ◌<◌, arith, length}
 use Rattle.eco_world.proofs.Common.{get_or, no_row, slice_get-get_or}
 use Rattle.std.proofs.lemmas.List.Elements.{All-get_or}
 use Rattle.eco_store.specs.Lent.{IsTableOf}
@@ -14,8 +14,10 @@ use Rattle.eco_tables.specs.Table.{HasIds}
 use Rattle.eco_ids.specs.Data.{value_of}
 use Rattle.eco_world.specs.Layouts.{is_lent, lent_by}
 use Rattle.eco_world.proofs.Data.{data_lent}
-use Rattle.eco_world.proofs.Layouts.{all_of, mapped_from, mapped_there}
-use Rattle.eco_world.proofs.Tabled.{found_made, made_of}
+use Rattle.eco_ids.specs.Layout.{IsLayout}
+use Rattle.eco_world.proofs.Layouts.{IsTable, all_of, layout_with, mapped_from, mapped_there}
+use Rattle.eco_world.proofs.Tabled.{all_covered, found_made, made_of, table_is, with_rows}
+use Rattle.eco_world.specs.Layouts.{listed_of, shown_of}
 
 -- a table as a world lists and lends it
 abbrev Lent : Type 0
@@ -140,3 +142,15 @@ row_found w (Some k) t table row e is there own =
     ap (λ (x : Lent). slice_get x.0.entities row) is
     ∙ (slice_get-map (λ (r : TableRow). r.entity) table.rows row
     ∙ ap (option_map (λ (r : TableRow). r.entity)) (slice_get-get_or table.rows row no_row there.within) ∙ ap Some (own no_row))
+
+-- where somebody stands in it, it is one of those that the world lists
+pub listed_found : (w : WorldState) (o : Option Record) (t : ListedTable) (table : TableState) (row : ℕ) → IsTableOf (entities w) table
+    → Stands o table row → t ≡ shown_of table → (layout : List ListedTable) × IsLayout w layout × Contains layout t
+listed_found w None t table row kept there is = absurd there
+listed_found w (Some k) t table row kept there is =
+    let slots = kept.0 in
+    let are = kept.2 in
+    let some : 0 < length (table_in slots kept.1).rows = let within : row < length (table_in slots kept.1).rows =
+    subst (λ (x : TableState). row < length x.rows) (sym kept.3) there.within in omega arith in
+    layout_with w t (with_rows slots) (subst (IsTable w) (ap shown_of kept.3 ∙ sym is) (table_is w slots are.shown are.kinds kept.1 some))
+    (all_covered w slots are.shown are.kinds)

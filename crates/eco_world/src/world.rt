@@ -1,6 +1,6 @@
 //! The world and what it answers.
 ghost use Rattle.std.specs.Prelude.{◌≡◌, ◌≤◌, ◌<◌, false, ◌||◌, IfErr, IfNone, IfOk, IfSome, is_some, IsTrue, length};
-ghost use Rattle.std.specs.Prelude.{ℕ, if◌then◌else◌, map, MatchOption, None, not, OnOk, option_map, slice_get, Some};
+ghost use Rattle.std.specs.Prelude.{ℕ, Contains, if◌then◌else◌, List, map, MatchOption, None, not, OnOk, option_map, slice_get, Some};
 ghost use Rattle.std.specs.Option.{option_copied};
 ghost use Rattle.eco_ids.specs.declared.entity.Entity.{Entity as Entities};
 ghost use Rattle.eco_ids.specs.declared.id.Id.{Id as Ids};
@@ -9,13 +9,14 @@ ghost use Rattle.eco_ids.specs.Builtin.{is_builtin};
 ghost use Rattle.eco_ids.specs.Data.{arity, arity_of, is_zero_past, value_of};
 ghost use Rattle.eco_ids.specs.Edition.{builtin_count};
 ghost use Rattle.eco_ids.specs.Lawful.{IsLawful};
+ghost use Rattle.eco_ids.specs.Layout.{IsLayout, ListedTable};
 ghost use Rattle.eco_ids.specs.Names.{lookup};
 ghost use Rattle.eco_ids.specs.Order.{id_cmp, is_ascending};
 ghost use Rattle.eco_ids.specs.Step.{own_name};
 ghost use Rattle.eco_ids.specs.World.{entities, first_world, has, held_by, is_alive, living, record_of, world_of_edition};
 ghost use Rattle.eco_entities.specs.Registration.{entity_at};
 ghost use Rattle.eco_traits.specs.Target.{type_of_record};
-ghost use Rattle.eco_world.specs.Layouts.{is_lent, lent_by};
+ghost use Rattle.eco_world.specs.Layouts.{is_lent, lent_by, listed_of};
 ghost use Rattle.eco_world.specs.Queries.{is_matched};
 ghost use Rattle.eco_world.specs.Refs.{StandsInRow};
 
@@ -75,6 +76,7 @@ impl Model for World {
     ghost Value = { WorldState };
 
     ghost use Rattle.eco_ids.specs.Lawful.{IsLawful};
+    ghost use Rattle.eco_ids.specs.Layout.{IsLayout, ListedTable};
     ghost use Rattle.eco_world.specs.Worlds.{asked_by, world_with};
 
     ghost view = { λ w. world_with w.edition w.store.entities (asked_by w.queries.items) };
@@ -229,11 +231,13 @@ impl World {
         EntityRef::new(self, entity)
     }
 
-    /// The table of a living entity's type, and the row in which the entity stands there: whoever else stands there has its
-    /// values in the same columns.
+    /// The table of a living entity's type, one of those that [`tables`](World::tables) lists, and the row in which the entity
+    /// stands there (Flecs manual, Queries, archetypes): whoever else stands there has its values in the same columns.
     #[inline]
     pub fn table_of(&self, entity: Entity) -> Option<(TableRows<'_>, usize)>
         ensures none { IfNone result (record_of self.now entity ≡ None) }
+        ensures listed { IfSome result (λ x. (layout : List ListedTable)
+            × IsLayout self.now layout × Contains layout (listed_of x.0)) }
         ensures lent { IfSome result (λ x. (row : ℕ) (e : Entities) → slice_get x.0.entities.now row ≡ Some e
             → (i : Ids) → value_of self.now e i
             ≡ (if is_lent x.0 i then slice_get (lent_by x.0 i) row else None)) }

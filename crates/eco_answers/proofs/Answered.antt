@@ -7,10 +7,10 @@ use Rattle.eco_answers.proofs.Common.{holds, matches_type, slot_view, term_view,
 use Rattle.eco_ids.specs.World.{Record}
 use Rattle.eco_ids.specs.Indices.{Indexed, IndexState, Retired, Free, Living, living, living_from, record_of}
 use Rattle.eco_ids.proofs.States.{record_at}
-use Rattle.eco_store.specs.Holders.{entities_whose, passes}
-use Rattle.eco_store.specs.Ranking.{StandsIn}
-use Rattle.eco_store.specs.Store.{record_ids, type_in_store}
-use Rattle.eco_store.specs.Worlds.{world_of}
+use Rattle.eco_places.specs.Holders.{entities_whose, passes}
+use Rattle.eco_answers.specs.Ranking.{StandsIn}
+use Rattle.eco_places.specs.Records.{record_ids, type_in_store}
+use Rattle.eco_places.specs.Worlds.{world_of}
 use Rattle.eco_ids.specs.Answer as answers
 
 -- ---- which ids have a choice

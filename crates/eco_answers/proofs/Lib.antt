@@ -3,3 +3,5 @@ pub mod Answered
 pub mod Blocked
 pub mod FixedEntries
 pub mod Groups
+pub mod Ranking
+pub mod IndexWalk

@@ -9,7 +9,7 @@ use Rattle.eco_ids.specs.declared.entity.Entity.{Entity}
 use Rattle.eco_ids.specs.declared.id.Id.{Id}
 use Rattle.eco_tables.specs.Table.{TableState}
 use Rattle.eco_tables.specs.Tables.{table_in}
-use Rattle.eco_store.specs.declared.standing.Standing.{Standing}
+use Rattle.eco_answers.specs.declared.standing.Standing.{Standing}
 use Rattle.eco_answers.specs.declared.blocks.Block.{Block}
 use Rattle.eco_answers.specs.declared.blocks.Blocks.{Blocks}
 

@@ -8,7 +8,7 @@ use Rattle.eco_ids.specs.declared.id.Id.{Id}
 use Rattle.eco_tables.specs.Table.{TableState}
 use Rattle.eco_tables.specs.Tables.{table_in}
 use Rattle.eco_query.specs.Queries.{QuerySlot, holds, matches_type}
-use Rattle.eco_store.specs.declared.standing.Standing.{Standing}
+use Rattle.eco_answers.specs.declared.standing.Standing.{Standing}
 
 -- the term has just this entry on each type on which it holds
 abbrev pub IsFixed : QueryTerm → Option Id → Type 0

@@ -1,3 +1,5 @@
+pub mod Ranking
+pub mod Ranked
 pub mod Answers
 pub mod Blocks
 pub mod Fixed

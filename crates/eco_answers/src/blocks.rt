@@ -6,10 +6,12 @@ ghost use Rattle.eco_tables.specs.Tables.{slot_of};
 ghost use Rattle.eco_answers.specs.Answers.{asks};
 ghost use Rattle.eco_answers.specs.Blocks.{AreBlocks, standings_in, standings_of};
 
+use crate::ranked::Ranked;
+use crate::standing::Standing;
 use eco_entries::{Choices, choices_of, find_only};
 use eco_ids::{Entity, Id, TableSlot};
 use eco_query::Slot;
-use eco_store::{Ranked, Standing, Table, Tables};
+use eco_tables::{Table, Tables};
 use std::alloc::{AllocError, Global};
 
 /// The choices of one table: from the first on, up to the end.

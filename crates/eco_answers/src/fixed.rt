@@ -9,7 +9,7 @@ ghost use Rattle.eco_query.specs.Queries.{exactly, term_view};
 use eco_entries::Choices;
 use eco_ids::{INLINE_IDS, Id, Part, Pattern, TableSlot};
 use eco_query::{Slot, Term};
-use eco_store::Tables;
+use eco_tables::Tables;
 use smallvec::SmallVec;
 use std::alloc::{AllocError, Global};
 

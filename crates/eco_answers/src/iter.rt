@@ -5,9 +5,9 @@ ghost use Rattle.std.specs.List.{All};
 ghost use Rattle.std.specs.Map.Iter.{TakesFirst};
 ghost use Rattle.eco_answers.specs.Blocks.{lent_result, shown};
 
+use crate::ranked::{Ranked, RankedIter};
 use eco_entries::Choices;
 use eco_ids::{Entity, Id};
-use eco_store::{Ranked, RankedIter};
 use std::marker::Model;
 
 /// The results that are left, each an entity and its entries. A contract sees the list of them.

@@ -5,7 +5,11 @@ mod asking;
 mod blocks;
 mod fixed;
 mod iter;
+mod ranked;
 mod results;
+mod searching;
+mod standing;
+mod walking;
 
 pub use asking::Asking;
 pub use iter::ResultIter;

@@ -8,16 +8,19 @@ ghost use Rattle.eco_tables.specs.Tables.{slot_of};
 ghost use Rattle.eco_answers.specs.Answers.{asked, asks};
 ghost use Rattle.eco_answers.specs.Blocks.{results_at, shown};
 ghost use Rattle.eco_answers.specs.Fixed.{AreFixed, FitsQuery};
-ghost use Rattle.eco_store.specs.Worlds.{world_of};
+ghost use Rattle.eco_places.specs.Worlds.{world_of};
 
 use crate::asking::Asking;
 use crate::blocks::{Blocks, blocks_of, rows_of};
 use crate::fixed::{FixedChoice, fixed_choice, once_each};
 use crate::iter::ResultIter;
+use crate::ranked::Ranked;
+use crate::searching::standing_by;
+use crate::standing::Standings;
 use eco_entries::Choices;
 use eco_ids::{Entity, Id};
+use eco_places::Places;
 use eco_query::{Query, Slot};
-use eco_store::{Ranked, Standings, Store};
 use std::alloc::{AllocError, Global};
 use std::marker::Model;
 
@@ -238,21 +241,21 @@ fn expanded_in(alloc: Global, found: Standings<'_>, terms: &[Slot]) -> Result<Re
 /// for each choice of an entry for each slot.
 ///
 /// The choices are made once for each table. Its time grows with the results and with the tables that the shortest group of
-/// the query's patterns finds, or that the store keeps at hand for the query, where `cache` is the number that its
-/// [`Store::keep`] gave. Rows of several tables come into order by a walk over the known indices where these are at
+/// the query's patterns finds, or that the store keeps at hand for the query, where `cache` is the number by
+/// which it keeps that. Rows of several tables come into order by a walk over the known indices where these are at
 /// most some sixteen times as many, and by sorting where the rows are few among them. An `Err` comes where memory is
 /// refused, and never where there is no result.
 pub fn results_of(
     alloc: Global,
-    store: &Store,
+    places: &Places<'_>,
     query: &Query,
     cache: Option<usize>,
 ) -> Result<Results, AllocError>
-    ensures all { IfOk result (λ r. r ≡ answer (world_of store.now.entities) (asked query.now)) }
-    ensures some { OnErr result (0 < length (answer (world_of store.now.entities) (asked query.now))) }
+    ensures all { IfOk result (λ r. r ≡ answer (world_of places.now.entities) (asked query.now)) }
+    ensures some { OnErr result (0 < length (answer (world_of places.now.entities) (asked query.now))) }
 {
     query.is_positive();
-    let found = store.standing_by(&Asking { query, cache })?;
+    let found = standing_by(alloc, places, &Asking { query, cache })?;
     if found.list.is_empty() {
         return Ok(Results::none(alloc, query.slots().len()));
     }

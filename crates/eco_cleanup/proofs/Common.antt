@@ -47,9 +47,10 @@ pub use Rattle.eco_ids.specs.declared.id.Id.TheVariants.{One, Two}
 pub use Rattle.eco_ids.specs.declared.pattern.Part.TheVariants.{Any, Is}
 pub use Rattle.eco_ids.specs.declared.pattern.Pattern.{Pattern}
 pub use Rattle.eco_index.specs.TypeTests.{type_names}
-pub use Rattle.eco_store.specs.Holders.{entities_with}
-pub use Rattle.eco_store.specs.Store.{IsShown, Stands, record_ids, with_toggled, with_type}
-pub use Rattle.eco_store.specs.Worlds.{world_of}
-pub use Rattle.eco_store.specs.declared.type_change.TypeChange.{TypeChange}
+pub use Rattle.eco_places.specs.Holders.{entities_with}
+pub use Rattle.eco_places.specs.Shown.{IsShown, Stands}
+pub use Rattle.eco_places.specs.Records.{record_ids, with_toggled, with_type}
+pub use Rattle.eco_places.specs.Worlds.{world_of}
+pub use Rattle.eco_places.specs.declared.type_change.TypeChange.{TypeChange}
 pub use Rattle.eco_tables.specs.Table.{RowsHaveIds, TableRow, TableState, entities_of}
 pub use Rattle.eco_tables.specs.Tables.{no_row, no_table, slot_of, table_in}

@@ -11,8 +11,8 @@ use Rattle.eco_ids.proofs.SameIds.{same_ids-Decides}
 use Rattle.eco_ids.proofs.States.{record_at}
 use Rattle.eco_tables.specs.Column.{value_in, retyped}
 use Rattle.eco_index.specs.TypeMap.{same_ids}
-use Rattle.eco_store.specs.Deaths.{after_deaths, death_at}
-use Rattle.eco_store.specs.Retyping.{after_change, after_changes, changed_record, IsOneWay}
+use Rattle.eco_places.specs.Deaths.{after_deaths, death_at}
+use Rattle.eco_places.specs.Retyping.{after_change, after_changes, changed_record, IsOneWay}
 use Rattle.eco_cleanup.proofs.Standing.{any_id}
 
 abbrev Held : Type 0

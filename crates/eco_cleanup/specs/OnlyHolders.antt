@@ -6,8 +6,8 @@ use Rattle.eco_ids.specs.declared.id.Id.{Id}
 use Rattle.eco_ids.specs.Indices.{Indexed, record_of}
 use Rattle.eco_ids.specs.Order.{entity_eq, id_cmp, is_ascending, names_entity}
 use Rattle.eco_ids.specs.World.{Record, has}
-use Rattle.eco_store.specs.Store.{record_ids}
-use Rattle.eco_store.specs.Worlds.{world_of}
+use Rattle.eco_places.specs.Records.{record_ids}
+use Rattle.eco_places.specs.Worlds.{world_of}
 use Rattle.eco_cleanup.specs.Policies.{names_on}
 use Rattle.eco_cleanup.specs.declared.only_holder.OnlyHolder.{OnlyHolder}
 

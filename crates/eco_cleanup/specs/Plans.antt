@@ -10,10 +10,10 @@ use Rattle.eco_ids.specs.Order.{entity_cmp, has_item, id_cmp, is_ascending}
 use Rattle.eco_ids.specs.World.{Record}
 use Rattle.eco_tables.specs.Table.{TableState}
 use Rattle.eco_tables.specs.Tables.{slot_of}
-use Rattle.eco_store.specs.Store.{record_ids}
-use Rattle.eco_store.specs.declared.type_change.TypeChange.{TypeChange}
+use Rattle.eco_places.specs.Records.{record_ids}
+use Rattle.eco_places.specs.declared.type_change.TypeChange.{TypeChange}
 use Rattle.eco_cleanup.specs.Nodes.{is_falling, taken_among}
-use Rattle.eco_store.specs.Worlds.{world_of}
+use Rattle.eco_places.specs.Worlds.{world_of}
 use Rattle.eco_cleanup.specs.declared.node.Node.{Node}
 use Rattle.eco_cleanup.specs.declared.node.Node.TheVariants.{Root, Falling, Named}
 

@@ -1,8 +1,8 @@
 //! Whoever is named by one id of one other entity alone, and whose death takes no more than that id.
 ghost use Rattle.std.specs.Prelude.{◌≡◌, ◌∷◌, [], false, filter, length, List, IsTrue, IfOk, IfSome};
 ghost use Rattle.eco_ids.specs.Order.{names_entity};
-ghost use Rattle.eco_store.specs.Store.{IsShown};
-ghost use Rattle.eco_store.specs.Worlds.{world_of};
+ghost use Rattle.eco_places.specs.Shown.{IsShown};
+ghost use Rattle.eco_places.specs.Worlds.{world_of};
 ghost use Rattle.eco_cleanup.specs.Nodes.{touches};
 ghost use Rattle.eco_cleanup.specs.OnlyHolders.{IsOnlyHolder};
 ghost use Rattle.eco_cleanup.specs.declared.node.Node.{Node as NodeData};
@@ -30,8 +30,8 @@ impl Ties<'_> {
         alloc: Global,
         member: Entity,
     ) -> Result<Option<OnlyHolder>, AllocError>
-        requires shown { IsShown self.now.store.now.entities self.now.places }
-        ensures only { IfOk result (λ o. IfSome o (λ h. IsOnlyHolder self.now.store.now.entities h)) }
+        requires shown { IsShown self.now.places.now.entities self.now.places.now.slots }
+        ensures only { IfOk result (λ o. IfSome o (λ h. IsOnlyHolder self.now.places.now.entities h)) }
         ensures member { IfOk result (λ o. IfSome o (λ h. h.member ≡ member)) }
     {
         if !self.is_named_once(member) {
@@ -61,10 +61,10 @@ impl Ties<'_> {
 
     // Who alone has an id that names the member, where no other node than this one is led to by the member's death.
     fn only_in(&self, member: Entity, node: Node) -> Option<OnlyHolder>
-        requires shown { IsShown self.now.store.now.entities self.now.places }
+        requires shown { IsShown self.now.places.now.entities self.now.places.now.slots }
         requires alone { (b : NodeData) →
-            IsTrue (touches (world_of self.now.store.now.entities) self.now.places member b) → b ≡ node }
-        ensures only { IfSome result (λ h. IsOnlyHolder self.now.store.now.entities h) }
+            IsTrue (touches (world_of self.now.places.now.entities) self.now.places.now.slots member b) → b ≡ node }
+        ensures only { IfSome result (λ h. IsOnlyHolder self.now.places.now.entities h) }
         ensures member { IfSome result (λ h. h.member ≡ member) }
     {
         let Node::Named(slot) = node else {
@@ -73,7 +73,7 @@ impl Ties<'_> {
         let table = self.table(slot)?;
         let id = only_name(table.type_list().as_slice(), member)?;
         let rows = table.rows();
-        if rows.len() != 1 || rows[0].is(member) || names_on(self.store, PANIC, member, id) {
+        if rows.len() != 1 || rows[0].is(member) || names_on(self.places, PANIC, member, id) {
             return None;
         }
         Some(OnlyHolder {

@@ -4,17 +4,17 @@ ghost use Rattle.eco_ids.specs.Cleanup.{names_any, IsDoomed as IsDoomedList};
 ghost use Rattle.eco_ids.specs.Order.{entity_cmp, has_item, id_cmp, is_ascending};
 ghost use Rattle.eco_ids.specs.declared.entity.Entity.{Entity as EntityData};
 ghost use Rattle.eco_tables.specs.Tables.{slot_of};
-ghost use Rattle.eco_store.specs.Store.{IsShown};
+ghost use Rattle.eco_places.specs.Shown.{IsShown};
 ghost use Rattle.eco_cleanup.specs.Nodes.{taken_among, taken_by, AreStarts};
 ghost use Rattle.eco_cleanup.specs.Objections.{AnswersDelete};
 ghost use Rattle.eco_cleanup.specs.Plans.{Ascend, change_in, changes_at, changes_of, spared, IsDeletePlan};
-ghost use Rattle.eco_store.specs.Worlds.{world_of};
+ghost use Rattle.eco_places.specs.Worlds.{world_of};
 
 use crate::doomed::Doomed;
 use crate::node::Node;
 use crate::ties::Ties;
 use eco_ids::{Entity, Id, Refusal, TableSlot, TypeList};
-use eco_store::TypeChange;
+use eco_places::TypeChange;
 use eco_tables::Table;
 use std::alloc::{AllocError, Global};
 
@@ -37,15 +37,15 @@ impl Drop for DeletePlan {
 impl Ties<'_> {
     /// What deaths by these nodes do, unless a policy forbids it: refused with `Panic` then, and last with `OutOfMemory`.
     pub fn plan(&self, alloc: Global, starts: &[Node]) -> Result<DeletePlan, Refusal>
-        requires shown { IsShown self.now.store.now.entities self.now.places }
+        requires shown { IsShown self.now.places.now.entities self.now.places.now.slots }
         requires starts { AreStarts starts.now }
-        ensures planned { IfOk result (λ p. IsDeletePlan self.now.store.now.entities
-            (λ x. IsTrue (has_item entity_cmp (taken_among self.now.places starts.now) x))
+        ensures planned { IfOk result (λ p. IsDeletePlan self.now.places.now.entities
+            (λ x. IsTrue (has_item entity_cmp (taken_among self.now.places.now.slots starts.now) x))
             p.dead.items p.changes.items) }
         ensures judged { (members : List EntityData)
-            → IsDoomedList (world_of self.now.store.now.entities)
-            (λ x. IsTrue (has_item entity_cmp (taken_among self.now.places starts.now) x)) members
-            → AnswersDelete (world_of self.now.store.now.entities) members result }
+            → IsDoomedList (world_of self.now.places.now.entities)
+            (λ x. IsTrue (has_item entity_cmp (taken_among self.now.places.now.slots starts.now) x)) members
+            → AnswersDelete (world_of self.now.places.now.entities) members result }
     {
         let doomed = self.judge(alloc, starts)?;
         let plan = self.plan_of(alloc, &doomed)?;
@@ -56,9 +56,9 @@ impl Ties<'_> {
     // all its rows. An `Err` comes where memory is refused.
     fn plan_of(&self, alloc: Global, doomed: &Doomed) -> Result<DeletePlan, AllocError>
         ensures dead { IfOk result (λ p.
-            p.dead.items ≡ taken_among self.now.places doomed.now.nodes.keys) }
+            p.dead.items ≡ taken_among self.now.places.now.slots doomed.now.nodes.keys) }
         ensures changes { IfOk result (λ p.
-            p.changes.items ≡ changes_of self.now.places doomed.now.nodes.keys) }
+            p.changes.items ≡ changes_of self.now.places.now.slots doomed.now.nodes.keys) }
         ensures ascend { IfOk result (λ p. Ascend p.changes.items) }
     {
         let dead = self.dead(alloc, doomed)?;
@@ -69,7 +69,7 @@ impl Ties<'_> {
     // Who dies; a root may be listed twice. The rows of a table that falls come in their order.
     fn dead(&self, alloc: Global, doomed: &Doomed) -> Result<Vec<Entity>, AllocError>
         ensures { IfOk result (λ es.
-            es.items ≡ taken_among self.now.places doomed.now.nodes.keys) }
+            es.items ≡ taken_among self.now.places.now.slots doomed.now.nodes.keys) }
     {
         let mut dead = Vec::new(alloc);
         for node in doomed.nodes.as_slice() {
@@ -80,7 +80,7 @@ impl Ties<'_> {
 
     // Who dies by the node.
     fn append_taken(&self, node: Node, dead: &mut Vec<Entity>) -> Result<(), AllocError>
-        ensures { OnOk result (dead.new.items ≡ dead.old.items ++ taken_by self.now.places node) }
+        ensures { OnOk result (dead.new.items ≡ dead.old.items ++ taken_by self.now.places.now.slots node) }
     {
         match node {
             Node::Root(entity) => dead.push(entity)?,
@@ -91,7 +91,7 @@ impl Ties<'_> {
     }
 
     fn changes(&self, alloc: Global, doomed: &Doomed) -> Result<Vec<TypeChange>, AllocError>
-        ensures changes { IfOk result (λ cs. cs.items ≡ changes_of self.now.places doomed.now.nodes.keys) }
+        ensures changes { IfOk result (λ cs. cs.items ≡ changes_of self.now.places.now.slots doomed.now.nodes.keys) }
         ensures ascend { IfOk result (λ cs. Ascend cs.items) }
     {
         let mut changes = Vec::new(alloc);
@@ -110,7 +110,7 @@ impl Ties<'_> {
         changes: &mut Vec<TypeChange>,
     ) -> Result<(), AllocError>
         ensures change { OnOk result (changes.new.items
-            ≡ changes.old.items ++ changes_at self.now.places doomed.now.nodes.keys node) }
+            ≡ changes.old.items ++ changes_at self.now.places.now.slots doomed.now.nodes.keys node) }
         ensures ascend { Ascend changes.old.items → OnOk result (Ascend changes.new.items) }
     {
         match node {
@@ -129,8 +129,8 @@ impl Ties<'_> {
         changes: &mut Vec<TypeChange>,
     ) -> Result<(), AllocError>
         ensures change { OnOk result (changes.new.items
-            ≡ changes.old.items ++ change_in (taken_among self.now.places doomed.now.nodes.keys)
-            (slot_of self.now.places slot)) }
+            ≡ changes.old.items ++ change_in (taken_among self.now.places.now.slots doomed.now.nodes.keys)
+            (slot_of self.now.places.now.slots slot)) }
         ensures ascend { Ascend changes.old.items → OnOk result (Ascend changes.new.items) }
     {
         if let Some(table) = self.table(slot) {
@@ -148,7 +148,7 @@ impl Ties<'_> {
         table: &Table,
     ) -> Result<TypeChange, AllocError>
         ensures change { IfOk result (λ c.
-            c ∷ [] ≡ change_in (taken_among self.now.places doomed.now.nodes.keys) (Some table.now)) }
+            c ∷ [] ≡ change_in (taken_among self.now.places.now.slots doomed.now.nodes.keys) (Some table.now)) }
         ensures ascend { IfOk result (λ c. IsTrue (is_ascending id_cmp c.from)) }
     {
         let from = table.type_list().try_copy()?;
@@ -161,7 +161,7 @@ impl Ties<'_> {
     fn spared(&self, alloc: Global, doomed: &Doomed, ids: &[Id]) -> Result<TypeList, AllocError>
         requires { IsTrue (is_ascending id_cmp ids.now) }
         ensures { IfOk result (λ t.
-            t ≡ spared (taken_among self.now.places doomed.now.nodes.keys) ids.now) }
+            t ≡ spared (taken_among self.now.places.now.slots doomed.now.nodes.keys) ids.now) }
     {
         let mut kept = TypeList::empty(alloc);
         for id in ids {
@@ -174,7 +174,7 @@ impl Ties<'_> {
 
     // Whether the id names one who dies.
     fn names_dead(&self, doomed: &Doomed, id: Id) -> bool
-        ensures { result ≡ names_any (taken_among self.now.places doomed.now.nodes.keys) id }
+        ensures { result ≡ names_any (taken_among self.now.places.now.slots doomed.now.nodes.keys) id }
     {
         match id {
             Id::One(own) => self.dies(doomed, own),

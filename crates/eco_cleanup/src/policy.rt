@@ -3,17 +3,17 @@ ghost use Rattle.std.specs.Prelude.{◌≡◌};
 ghost use Rattle.eco_ids.specs.Cleanup.{policy as policy_of};
 ghost use Rattle.eco_ids.specs.Order.{has_item, id_cmp};
 ghost use Rattle.eco_cleanup.specs.Policies.{chosen};
-ghost use Rattle.eco_store.specs.Worlds.{world_of};
+ghost use Rattle.eco_places.specs.Worlds.{world_of};
 
 use eco_ids::entity::{DELETE, PANIC, REMOVE};
 use eco_ids::{Entity, Id, TypeList};
-use eco_store::Store;
+use eco_places::Places;
 
 /// The action that an entity pairs with the condition, else `REMOVE`.
-pub fn policy(store: &Store, entity: Entity, condition: Entity) -> Entity
-    ensures { result ≡ policy_of (world_of store.now.entities) entity condition }
+pub fn policy(places: &Places<'_>, entity: Entity, condition: Entity) -> Entity
+    ensures { result ≡ policy_of (world_of places.now.entities) entity condition }
 {
-    match store.type_of(entity) {
+    match places.type_of(entity) {
         Some(ids) => action_in(ids, condition),
         None => REMOVE,
     }

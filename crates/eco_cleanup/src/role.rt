@@ -8,13 +8,13 @@ ghost use Rattle.eco_ids.specs.declared.id.Id.TheVariants.{Two};
 ghost use Rattle.eco_tables.specs.Table.{entities_of};
 ghost use Rattle.eco_tables.specs.Tables.{table_in};
 ghost use Rattle.eco_cleanup.specs.Policies.{is_head, names_on};
-ghost use Rattle.eco_store.specs.Worlds.{world_of};
+ghost use Rattle.eco_places.specs.Worlds.{world_of};
 
 use crate::policy::policy;
 use eco_archetypes::Archetypes;
 use eco_ids::entity::{DELETE, ON_DELETE, ON_DELETE_TARGET};
 use eco_ids::{Entity, Id, Part, Pattern, TableSlot, TypeList};
-use eco_store::Store;
+use eco_places::Places;
 
 // Of a relationship that has this pair the holders die with the target.
 const DELETING: Pattern = Pattern::Two(Part::Is(ON_DELETE_TARGET), Part::Is(DELETE));
@@ -26,43 +26,44 @@ const MANY_IDS: usize = 16;
 const IDS_PER_SEARCH: usize = 8;
 
 /// Whether one of the ids names the member in a role whose policy is `Delete`.
-pub fn any_deletes(store: &Store, member: Entity, ids: &TypeList) -> bool
-    ensures { result ≡ list_any (names_on (world_of store.now.entities) DELETE_DATA member) ids.now }
+pub fn any_deletes(places: &Places<'_>, member: Entity, ids: &TypeList) -> bool
+    ensures { result ≡ list_any (names_on (world_of places.now.entities) DELETE_DATA member) ids.now }
 {
     if ids.as_slice().len() < MANY_IDS {
-        any_names_on(store, DELETE, member, ids.as_slice())
+        any_names_on(places, DELETE, member, ids.as_slice())
     } else {
-        any_of_many(store, member, ids)
+        any_of_many(places, member, ids)
     }
 }
 
 // What `any_deletes` does with many ids, of which not each is read: it is asked of the relationships of which holders die with
 // targets, where those are few beside the ids.
-fn any_of_many(store: &Store, member: Entity, ids: &TypeList) -> bool
-    ensures { result ≡ list_any (names_on (world_of store.now.entities) DELETE_DATA member) ids.now }
+fn any_of_many(places: &Places<'_>, member: Entity, ids: &TypeList) -> bool
+    ensures { result ≡ list_any (names_on (world_of places.now.entities) DELETE_DATA member) ids.now }
 {
-    let archetypes = store.archetypes();
+    places.are_shown();
+    let archetypes = places.archetypes();
     let slots = archetypes.listed(DELETING);
     if !have_fewer(archetypes, slots, ids.as_slice().len() / IDS_PER_SEARCH) {
-        return any_names_on(store, DELETE, member, ids.as_slice());
+        return any_names_on(places, DELETE, member, ids.as_slice());
     }
-    is_head_or_pair(store, archetypes, slots, member, ids)
+    is_head_or_pair(places, archetypes, slots, member, ids)
 }
 
 // Whether one of the ids is the member, whose policy is `Delete`, or a pair of it, or its pair with one who stands in the tables
 // of these slots.
 fn is_head_or_pair(
-    store: &Store,
+    places: &Places<'_>,
     archetypes: &Archetypes,
     slots: &[TableSlot],
     member: Entity,
     ids: &TypeList,
 ) -> bool
-    ensures { result ≡ (entity_eq (policy_of (world_of store.now.entities) member ON_DELETE_DATA) DELETE_DATA
+    ensures { result ≡ (entity_eq (policy_of (world_of places.now.entities) member ON_DELETE_DATA) DELETE_DATA
         && list_any (is_head member) ids.now || list_any (λ n. list_any (λ r. has_item id_cmp ids.now
         (Two r member)) (entities_of (table_in archetypes.now n).rows)) slots.now) }
 {
-    policy(store, member, ON_DELETE).is(DELETE) && any_heads(member, ids.as_slice())
+    policy(places, member, ON_DELETE).is(DELETE) && any_heads(member, ids.as_slice())
         || any_pairs_in(archetypes, slots, member, ids)
 }
 
@@ -132,21 +133,21 @@ fn any_pairs(relationships: &[Entity], target: Entity, ids: &TypeList) -> bool
 }
 
 /// Whether one of the ids names the member in a role whose policy is this action.
-pub fn any_names_on(store: &Store, action: Entity, member: Entity, ids: &[Id]) -> bool
-    ensures { result ≡ list_any (names_on (world_of store.now.entities) action member) ids.now }
+pub fn any_names_on(places: &Places<'_>, action: Entity, member: Entity, ids: &[Id]) -> bool
+    ensures { result ≡ list_any (names_on (world_of places.now.entities) action member) ids.now }
 {
-    ids.iter().any(|id| names_on(store, action, member, *id))
+    ids.iter().any(|id| names_on(places, action, member, *id))
 }
 
 /// Whether the id does so.
-pub fn names_on(store: &Store, action: Entity, member: Entity, id: Id) -> bool
-    ensures { result ≡ names_on (world_of store.now.entities) action member id }
+pub fn names_on(places: &Places<'_>, action: Entity, member: Entity, id: Id) -> bool
+    ensures { result ≡ names_on (world_of places.now.entities) action member id }
 {
     match id {
-        Id::One(own) => own.is(member) && policy(store, own, ON_DELETE).is(action),
+        Id::One(own) => own.is(member) && policy(places, own, ON_DELETE).is(action),
         Id::Two(relationship, target) => {
-            relationship.is(member) && policy(store, relationship, ON_DELETE).is(action)
-                || target.is(member) && policy(store, relationship, ON_DELETE_TARGET).is(action)
+            relationship.is(member) && policy(places, relationship, ON_DELETE).is(action)
+                || target.is(member) && policy(places, relationship, ON_DELETE_TARGET).is(action)
         }
     }
 }

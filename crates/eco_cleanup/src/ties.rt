@@ -6,15 +6,15 @@ ghost use Rattle.eco_tables.specs.Tables.{slot_of, table_in};
 ghost use Rattle.eco_ids.specs.Order.{entity_cmp, has_item};
 ghost use Rattle.eco_ids.specs.declared.entity.TheConstants.{DELETE as DELETE_DATA};
 ghost use Rattle.eco_cleanup.specs.Nodes.{all_nodes, falls, leads, named_node, node_same, nodes_at, taken_among, touches, touches_by, AddsNodes, IsSearch};
-ghost use Rattle.eco_store.specs.Worlds.{world_of};
+ghost use Rattle.eco_places.specs.Worlds.{world_of};
 ghost use Rattle.eco_cleanup.specs.declared.node.Node.TheVariants.{Falling};
 
 use crate::doomed::Doomed;
 use crate::node::Node;
 use crate::role::any_deletes;
 use eco_ids::{Entity, Part, Pattern, TableSlot};
+use eco_places::Places;
 use eco_search::{Graph, least_set};
-use eco_store::{Places, Store};
 use eco_tables::Table;
 use std::alloc::{AllocError, Global};
 
@@ -22,16 +22,16 @@ use std::alloc::{AllocError, Global};
 /// So who dies with a table is never noted.
 #[derive(Drop)]
 pub struct Ties<'a> {
-    pub store: &'a Store,
-    pub places: Places<'a>,
+    pub places: &'a Places<'a>,
 }
 
 impl Graph for Ties<'_> {
     type Node = Node;
 
-    ghost nodes = { λ t. all_nodes t.places };
+    ghost nodes = { λ t. all_nodes t.places.now.slots };
 
-    ghost leads = { λ t a b. IsTrue (leads (world_of t.store.now.entities) t.places a b) };
+    ghost leads = { λ t a b.
+        IsTrue (leads (world_of t.places.now.entities) t.places.now.slots a b) };
 
     fn append_next(&self, node: Node, found: &mut Vec<Node>) -> Result<(), AllocError> {
         match node {
@@ -47,8 +47,8 @@ impl Graph for Ties<'_> {
 impl Ties<'_> {
     /// All that deaths by these nodes lead to.
     pub fn search(&self, alloc: Global, starts: &[Node]) -> Result<Doomed, AllocError>
-        ensures { IfOk result (λ d. IsSearch (world_of self.now.store.now.entities)
-            self.now.places starts.now d.nodes.keys) }
+        ensures { IfOk result (λ d. IsSearch (world_of self.now.places.now.entities)
+            self.now.places.now.slots starts.now d.nodes.keys) }
     {
         let nodes = least_set(alloc, self, starts)?;
         Ok(Doomed { nodes })
@@ -58,7 +58,7 @@ impl Ties<'_> {
     #[inline(always)]
     pub fn append_named(&self, entity: Entity, found: &mut Vec<Node>) -> Result<(), AllocError>
         ensures { OnOk result (AddsNodes
-            (touches (world_of self.now.store.now.entities) self.now.places entity)
+            (touches (world_of self.now.places.now.entities) self.now.places.now.slots entity)
             found.old.items found.new.items) }
     {
         if !self.places.archetypes().is_named(entity) {
@@ -79,7 +79,7 @@ impl Ties<'_> {
         found: &mut Vec<Node>,
     ) -> Result<(), AllocError>
         ensures { OnOk result (AddsNodes
-            (touches_by (world_of self.now.store.now.entities) self.now.places member pattern)
+            (touches_by (world_of self.now.places.now.entities) self.now.places.now.slots member pattern)
             found.old.items found.new.items) }
     {
         for slot in self.places.archetypes().listed(pattern) {
@@ -97,7 +97,7 @@ impl Ties<'_> {
         found: &mut Vec<Node>,
     ) -> Result<(), AllocError>
         ensures { OnOk result (found.new.items ≡ found.old.items
-            ++ nodes_at (world_of self.now.store.now.entities) self.now.places member slot) }
+            ++ nodes_at (world_of self.now.places.now.entities) self.now.places.now.slots member slot) }
     {
         if self.places.archetypes().tables().row_count(slot) > 0 {
             found.push(self.named_node(member, slot))?;
@@ -107,7 +107,7 @@ impl Ties<'_> {
 
     // The table in a slot falls where an id of its type names the member under the policy `Delete`, else it is only named.
     fn named_node(&self, member: Entity, slot: TableSlot) -> Node
-        ensures { result ≡ named_node (world_of self.now.store.now.entities) self.now.places member slot }
+        ensures { result ≡ named_node (world_of self.now.places.now.entities) self.now.places.now.slots member slot }
     {
         if self.falls(member, slot) {
             Node::Falling(slot)
@@ -117,10 +117,10 @@ impl Ties<'_> {
     }
 
     fn falls(&self, member: Entity, slot: TableSlot) -> bool
-        ensures { result ≡ falls (world_of self.now.store.now.entities) self.now.places member slot }
+        ensures { result ≡ falls (world_of self.now.places.now.entities) self.now.places.now.slots member slot }
     {
         match self.table(slot) {
-            Some(table) => any_deletes(self.store, member, table.type_list()),
+            Some(table) => any_deletes(self.places, member, table.type_list()),
             None => false,
         }
     }
@@ -128,7 +128,7 @@ impl Ties<'_> {
     // The tables whose types name one who stands in the table of a slot.
     fn append_standing(&self, slot: TableSlot, found: &mut Vec<Node>) -> Result<(), AllocError>
         ensures { OnOk result (AddsNodes
-            (leads (world_of self.now.store.now.entities) self.now.places (Falling slot))
+            (leads (world_of self.now.places.now.entities) self.now.places.now.slots (Falling slot))
             found.old.items found.new.items) }
     {
         for entity in self.standing(slot) {
@@ -139,7 +139,7 @@ impl Ties<'_> {
 
     /// All who stand in the table of a slot; nobody, where there is no table.
     pub fn standing(&self, slot: TableSlot) -> &[Entity]
-        ensures { result.now ≡ entities_of (table_in self.now.places slot).rows }
+        ensures { result.now ≡ entities_of (table_in self.now.places.now.slots slot).rows }
     {
         match self.table(slot) {
             Some(table) => table.rows(),
@@ -149,14 +149,14 @@ impl Ties<'_> {
 
     /// The table in a slot.
     pub fn table(&self, slot: TableSlot) -> Option<&Table>
-        ensures { option_copied result ≡ slot_of self.now.places slot }
+        ensures { option_copied result ≡ slot_of self.now.places.now.slots slot }
     {
         self.places.archetypes().tables().get(slot)
     }
 
     /// Whether the entity is one of those who die: a root, or one who stands in a table that falls.
     pub fn dies(&self, doomed: &Doomed, entity: Entity) -> bool
-        ensures { result ≡ has_item entity_cmp (taken_among self.now.places doomed.now.nodes.keys) entity }
+        ensures { result ≡ has_item entity_cmp (taken_among self.now.places.now.slots doomed.now.nodes.keys) entity }
     {
         match self.places.slot_of(entity) {
             Some(slot) => doomed.takes(entity, slot),

@@ -8,10 +8,11 @@ use Rattle.eco_store.proofs.Common.{admitted, TableState, retyped_row, Place, Cr
 use Rattle.eco_store.proofs.Common.{IsSeated, held_of, row_at, SameRows, CreatesRecord, record_name, record_for, read, seat_in, seat_at, HasPlace, IsStore}
 use Rattle.eco_store.proofs.Common.{newborn, slice_get_within, Decides-ltb, slice_get-set_there, slice_get-set_other, map-replicate, record_at}
 use Rattle.eco_tables.specs.Tables.{new_row as row_of}
-use Rattle.eco_store.specs.Seats.{seen}
+use Rattle.eco_places.specs.Seats.{held_in_seat}
 use Rattle.eco_store.proofs.RowChanges.{rows_pushed}
 use Rattle.eco_store.proofs.SeatChanges.{Pushed, pushed_change}
-use Rattle.eco_store.proofs.Views.{alike_but, alike_set, at_each, bare, each_state, read_at, seen_alike}
+use Rattle.eco_store.proofs.Views.{alike_but, alike_set, at_each, bare, seen_alike}
+use Rattle.eco_places.proofs.Seated.{each_state, read_at}
 use Rattle.eco_store.proofs.Newborn.{create_done, create_made, create_refused, refused, Vacant, born_here, born_other, born_limit, next_is}
 use Rattle.eco_store.proofs.StoreChanges.{same_read}
 
@@ -48,7 +49,7 @@ module _ (w w1 : Indexed Registration) (s s1 : List (Option TableState)) (e : En
       (λ k. ap (λ xs. slice_get xs k) puts.rows.changed) (λ n k o. ap (λ xs. slice_get xs k) (puts.rows.others n o))
 
   born_change : IsSeated (seat_at w2) (row_at s1)
-      × ((j : ℕ) → j ≢ e.index → option_map (seen (row_at s1)) (seat_at w2 j) ≡ option_map (seen (row_at s)) (seat_at w j))
+      × ((j : ℕ) → j ≢ e.index → option_map (held_in_seat (row_at s1)) (seat_at w2 j) ≡ option_map (held_in_seat (row_at s)) (seat_at w j))
   born_change =
       pushed_change (seat_at w) (seat_at w2) (row_at s) (row_at s1) e.index e.generation place.table place.row _ store.seated pushed (no_seat _ vacant)
       refl (ap seat_in w2_here) (λ j other. ap seat_in (w2_others j other))

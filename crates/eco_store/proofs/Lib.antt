@@ -1,5 +1,4 @@
 pub mod Common
-pub mod Holders
 pub mod RowChanges
 pub mod SeatChanges
 pub mod Views
@@ -7,7 +6,6 @@ pub mod StoreChanges
 pub mod Newborn
 pub mod BirthChanges
 pub mod Values
-pub mod Sorting
 pub mod Retyping
 pub mod Pouring
 pub mod Coming
@@ -17,7 +15,6 @@ pub mod Laid
 pub mod RowCounts
 pub mod Rowless
 pub mod FoundTypes
-pub mod Ranking
 pub mod Stepping
 pub mod WholeMoves
 pub mod Needing
@@ -26,6 +23,4 @@ pub mod Taking
 pub mod Dying
 pub mod Clearing
 pub mod Thinning
-pub mod IndexWalk
-pub mod Placed
 pub mod Coupled

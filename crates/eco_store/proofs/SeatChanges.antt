@@ -1,7 +1,8 @@
 -- What a row taken out and a row put in leave of the seats.
 use Rattle.eco_store.proofs.Common.{◌≡◌, ◌≢◌, ℕ, Option, Some, None, option_map, refl, sym, ap, subst, ◌∙◌, inl, inr, cases_eq, Entity}
 use Rattle.eco_store.proofs.Common.{TableRow, Seat, IsSeated, seated_entity, seat_of, held_of}
-use Rattle.eco_store.specs.Seats.{seen}
+use Rattle.eco_places.specs.Seats.{held_in_seat}
+use Rattle.eco_places.proofs.Seated.{no_some, one_some}
 
 -- the row of the table f went; the last one, m, took its place
 pub record Removed (E E' : ℕ → ℕ → Option TableRow) (f row last : ℕ) : Type 0 where
@@ -16,12 +17,6 @@ pub record Pushed (E E' : ℕ → ℕ → Option TableRow) (t end : ℕ) (r : Ta
   pub at_end : E' t end ≡ Some r
   pub others_here : (k : ℕ) → k ≢ end → E' t k ≡ E t k
   pub others : (n k : ℕ) → n ≢ t → E' n k ≡ E n k
-
-pub no_some : {X : Type 0} (o : Option X) (x : X) → o ≡ None → o ≡ Some x → ⊥
-no_some o x a b = let bad : ◌≡◌ {A = Option _} None (Some x) = sym a ∙ b in cc
-
-pub one_some : {X : Type 0} (o : Option X) (x y : X) → o ≡ Some x → o ≡ Some y → x ≡ y
-one_some o x y a b = let both : ◌≡◌ {A = Option _} (Some x) (Some y) = sym a ∙ b in cc
 
 -- whose row it is
 abbrev pub who : Option TableRow → Option Entity
@@ -97,17 +92,17 @@ module _ (P P' : ℕ → Option Seat) (E E' : ℕ → ℕ → Option TableRow) (
   }
 
   -- what is seen of another entity stays
-  pushed_seen : (j : ℕ) → j ≢ i → option_map (seen E') (P' j) ≡ option_map (seen E) (P j)
-  pushed_seen j other = ap (option_map (seen E')) (kept j other) ∙ by (P j) refl
+  pushed_seen : (j : ℕ) → j ≢ i → option_map (held_in_seat E') (P' j) ≡ option_map (held_in_seat E) (P j)
+  pushed_seen j other = ap (option_map (held_in_seat E')) (kept j other) ∙ by (P j) refl
     where
-      by : (o : Option Seat) → P j ≡ o → option_map (seen E') o ≡ option_map (seen E) o
+      by : (o : Option Seat) → P j ≡ o → option_map (held_in_seat E') o ≡ option_map (held_in_seat E) o
       by None e = refl
       by (Some p) e =
           let old = seated.there j p e in
           let new = push_keeps p.slot p.row old.0 old.1 in
           ap (λ o. Some (held_of o)) (new ∙ sym old.1)
 
-  pub pushed_change : IsSeated P' E' × ((j : ℕ) → j ≢ i → option_map (seen E') (P' j) ≡ option_map (seen E) (P j))
+  pub pushed_change : IsSeated P' E' × ((j : ℕ) → j ≢ i → option_map (held_in_seat E') (P' j) ≡ option_map (held_in_seat E) (P j))
   pushed_change = (seated_pushed, pushed_seen)
 
 module _ (P P' : ℕ → Option Seat) (E E' : ℕ → ℕ → Option TableRow) (i g f row last : ℕ) (m : TableRow)
@@ -191,21 +186,21 @@ module _ (P P' : ℕ → Option Seat) (E E' : ℕ → ℕ → Option TableRow) (
   }
 
   -- what is seen of another entity stays
-  removed_seen : (j : ℕ) → j ≢ i → option_map (seen E') (P' j) ≡ option_map (seen E) (P j)
+  removed_seen : (j : ℕ) → j ≢ i → option_map (held_in_seat E') (P' j) ≡ option_map (held_in_seat E) (P j)
   removed_seen j not_i =
       elim (cases_eq j m.entity.index) [
         | inl is_m ↦
             let apart : last ≢ row = λ q. not_i (is_m ∙ m_same q) in
-            ap (λ k. option_map (seen E') (P' k)) is_m
-            ∙ ap (option_map (seen E')) (fixed apart)
+            ap (λ k. option_map (held_in_seat E') (P' k)) is_m
+            ∙ ap (option_map (held_in_seat E')) (fixed apart)
             ∙ ap (λ o. Some (held_of o)) (removed.at_row apart)
-            ∙ sym (ap (λ k. option_map (seen E) (P k)) is_m ∙ ap (option_map (seen E)) m_at)
-        | inr not_m ↦ ap (option_map (seen E')) (kept j not_i not_m) ∙ by (P j) refl not_m
+            ∙ sym (ap (λ k. option_map (held_in_seat E) (P k)) is_m ∙ ap (option_map (held_in_seat E)) m_at)
+        | inr not_m ↦ ap (option_map (held_in_seat E')) (kept j not_i not_m) ∙ by (P j) refl not_m
       ]
     where
-      by : (o : Option Seat) → P j ≡ o → j ≢ m.entity.index → option_map (seen E') o ≡ option_map (seen E) o
+      by : (o : Option Seat) → P j ≡ o → j ≢ m.entity.index → option_map (held_in_seat E') o ≡ option_map (held_in_seat E) o
       by None e not_m = refl
       by (Some p) e not_m = ap (λ o. Some (held_of o)) (stays j p not_i not_m e)
 
-  pub removed_change : IsSeated P' E' × ((j : ℕ) → j ≢ i → option_map (seen E') (P' j) ≡ option_map (seen E) (P j))
+  pub removed_change : IsSeated P' E' × ((j : ℕ) → j ≢ i → option_map (held_in_seat E') (P' j) ≡ option_map (held_in_seat E) (P j))
   removed_change = (seated_removed, removed_seen)

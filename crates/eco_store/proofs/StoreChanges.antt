@@ -1,57 +1,21 @@
 -- The store after an entity's row went, and the entity that took its place was placed anew.
-use Rattle.eco_store.proofs.Common.{◌≡◌, ◌≢◌, ℕ, ◌<◌, ◌-◌, ◌+◌, ◌==◌, Bool, true, false, true≢false, cond, Bor, List, map}
-use Rattle.eco_store.proofs.Common.{length, get_or, set, slice_get, nat_lt, if◌then◌else◌, Option, Some, None, option_map, option_and_then, is_some}
-use Rattle.eco_store.proofs.Common.{IsSome, IfSome, IsTrue, refl, sym, ap, subst, ◌∙◌, arith, inl, inr, swap_remove, option_copied, cases_eq}
-use Rattle.eco_store.proofs.Common.{slice_get-get_or, slice_get-map, slice_get_within, Entity, Id, changed, change_kept, with_record, Indexed, IndexState}
+use Rattle.eco_store.proofs.Common.{◌≡◌, ◌≢◌, ℕ, ◌<◌, ◌-◌, ◌+◌, ◌==◌, Bool, true, false, cond, List, map}
+use Rattle.eco_store.proofs.Common.{length, get_or, set, slice_get, nat_lt, if◌then◌else◌, Option, Some, None, option_map, is_some}
+use Rattle.eco_store.proofs.Common.{IfSome, IsTrue, refl, sym, ap, subst, ◌∙◌, arith, inl, inr, swap_remove, cases_eq}
+use Rattle.eco_store.proofs.Common.{slice_get-get_or, slice_get-map, Entity, Id, changed, change_kept, with_record, Indexed, IndexState}
 use Rattle.eco_store.proofs.Common.{Retired, Free, Living, record_of, with_death, raised, is_alive, map_state, Record, not_equal, slice_get-set_there}
-use Rattle.eco_store.proofs.Common.{slice_get-set_other, living_at, record_at, retyped, TableState, TableRow, entities_of, retyped_row, table_in, row_in}
+use Rattle.eco_store.proofs.Common.{slice_get-set_other, living_at, record_at, retyped, TableState, TableRow, entities_of, retyped_row, row_in}
 use Rattle.eco_store.proofs.Common.{no_row, row_at, SameRows, Place, Registration, placed, own_place, rows_in, MovesRow, fixed, Seat, IsSeated, seated_entity}
-use Rattle.eco_store.proofs.Common.{seat_of, held_of, record_for, held_at, read, seat_in, seat_at, seat_of_place, HasPlace, IsStore, with_type}
-use Rattle.eco_store.specs.Seats.{seen}
+use Rattle.eco_store.proofs.Common.{seat_of, held_of, record_for, held_at, read, seat_in, seat_at, HasPlace, IsStore, with_type}
+use Rattle.eco_places.specs.Seats.{held_in_seat}
 use Rattle.eco_store.proofs.RowChanges.{between_rows, moves_removes, moves_pushes, rows_removed, swap_at_row, swap_at_last, is_equal}
-use Rattle.eco_store.proofs.SeatChanges.{Pushed, no_some, one_some, pushed_change, removed_change}
-use Rattle.eco_store.proofs.Views.{alike_set, at_each, bare, bare_at, changed_at, raised_either, read_at, seen_alike}
-
--- what a seat says of its index
-pub place_from_seat : (o : Option (IndexState Registration)) (e : Entity) (n k : ℕ) → seat_in o ≡ Some (seat_of e n k)
-    → (r : Registration) × (o ≡ Some (Living e.generation r)) × (r.place ≡ Some (record { table = n; row = k }))
-place_from_seat None e n k h = absurd (cc)
-place_from_seat (Some Retired) e n k h = absurd (cc)
-place_from_seat (Some (Free g)) e n k h = absurd (cc)
-place_from_seat (Some (Living g r)) e n k h = by r.place refl h
-  where
-    by : (p : Option Place) → r.place ≡ p → option_map (seat_of_place g) p ≡ Some (seat_of e n k)
-        → (x : Registration) × (◌≡◌ {A = Option (IndexState Registration)} (Some (Living g r)) (Some (Living e.generation x)))
-        × (x.place ≡ Some (record { table = n; row = k }))
-    by None is h = absurd (cc)
-    by (Some p) is h =
-        let same : seat_of_place g p ≡ seat_of e n k = cc in
-        (r, (λ t. Some (Living (same t).generation r)), is ∙ (λ t. Some (record { table = (same t).slot; row = (same t).row })))
-
--- the record of an entity that has a place
-pub placed_record : (w : Indexed Registration) (e : Entity) (p : Place) → own_place w e ≡ Some p →
-    (r : Registration) × (record_of w e ≡ Some r) × (r.place ≡ Some p)
-placed_record w e p = by (record_of w e)
-  where
-    by : (o : Option Registration) → option_and_then (λ r. r.place) o ≡ Some p → (r : Registration) × (o ≡ Some r) × (r.place ≡ Some p)
-    by None h = absurd (cc)
-    by (Some r) h = (r, refl, h)
-
-pub seat_there : (w : Indexed Registration) (e : Entity) (p : Place) → own_place w e ≡ Some p → seat_at w e.index ≡ Some (seat_of e p.table p.row)
-seat_there w e p own =
-    let r = placed_record w e p own in
-    ap seat_in (living_at w e r.0 r.1) ∙ ap (option_map (seat_of_place e.generation)) r.2
+use Rattle.eco_store.proofs.SeatChanges.{Pushed, pushed_change, removed_change}
+use Rattle.eco_places.proofs.Seated.{no_some, one_some, read_at, place_from_seat, placed_record, seat_there, read_record, row_within}
+use Rattle.eco_store.proofs.Views.{alike_set, at_each, bare, bare_at, changed_at, raised_either, seen_alike}
 
 -- the same rows, as one function
 rows_as : (s s' : List (Option TableState)) → SameRows s s' → row_at s' ≡ row_at s
 rows_as s s' same = λ t n k. same n k t
-
--- what a store shows of a living entity
-pub read_record : (w : Indexed Registration) (s : List (Option TableState)) (e : Entity) (r : Registration) → record_of w e ≡ Some r
-    → record_of (read w s) e ≡ Some (record_for (row_at s) r)
-read_record w s e r h =
-    record_at (read w s) e (record_for (row_at s) r)
-    (read_at w s e.index _ (living_at w e r h))
 
 pub same_store : (w : Indexed Registration) (s s' : List (Option TableState)) → SameRows s s' → IsStore w s → IsStore w s'
 same_store w s s' same store = record {
@@ -61,12 +25,6 @@ same_store w s s' same store = record {
 
 pub same_read : (w : Indexed Registration) (s s' : List (Option TableState)) → SameRows s s' → read w s' ≡ read w s
 same_read w s s' same = ap (λ E. record { limit = w.limit; indices = map (map_state (record_for E)) w.indices }) (rows_as s s' same)
-
--- an entity's row is there
-pub row_within : (w : Indexed Registration) (s : List (Option TableState)) (e : Entity) (p : Place) → IsStore w s → own_place w e ≡ Some p
-    → p.row < length (table_in s p.table).rows
-row_within w s e p store own =
-    let old = store.seated.there e.index (seat_of e p.table p.row) (seat_there w e p own) in slice_get_within (rows_in s p.table) p.row old.0 old.1
 
 -- ---- the entity that came to the place
 
@@ -212,7 +170,7 @@ module _ (w : Indexed Registration) (s s1 : List (Option TableState)) (e : Entit
 
     -- all is seen as before but what is seen of the entity
     after_read : (y : IndexState Record)
-        → ((j : ℕ) → j ≢ e.index → option_map (seen (row_at s1)) (seat_at after j) ≡ option_map (seen (row_at s)) (seat_at w j))
+        → ((j : ℕ) → j ≢ e.index → option_map (held_in_seat (row_at s1)) (seat_at after j) ≡ option_map (held_in_seat (row_at s)) (seat_at w j))
         → option_map (map_state (record_for (row_at s1))) (Some x) ≡ Some y
         → read after s1 ≡ record (read w s) { indices = set (read w s).indices e.index y }
     after_read y others it =
@@ -227,7 +185,7 @@ module _ (w : Indexed Registration) (s s1 : List (Option TableState)) (e : Entit
     gone = raised e.generation
 
     out_change : IsSeated (seat_at (after gone)) (row_at s1)
-        × ((j : ℕ) → j ≢ e.index → option_map (seen (row_at s1)) (seat_at (after gone) j) ≡ option_map (seen (row_at s)) (seat_at w j))
+        × ((j : ℕ) → j ≢ e.index → option_map (held_in_seat (row_at s1)) (seat_at (after gone) j) ≡ option_map (held_in_seat (row_at s)) (seat_at w j))
     out_change =
         removed_change (seat_at w) (seat_at (after gone)) (row_at s) (row_at s1) e.index e.generation p.table p.row last final store.seated
         (rows_removed s (row_at s1) p.table p.row inside (λ k. ap (λ xs. slice_get xs k) source) (λ n k o. ap (λ xs. slice_get xs k) (others n o)))
@@ -264,7 +222,7 @@ module _ (w : Indexed Registration) (s s1 : List (Option TableState)) (e : Entit
     abbrev E1 : ℕ → ℕ → Option TableRow
     E1 = between_rows s s1 p to ids moved inside moves
 
-    between : IsSeated P1 E1 × ((j : ℕ) → j ≢ e.index → option_map (seen E1) (P1 j) ≡ option_map (seen (row_at s)) (seat_at w j))
+    between : IsSeated P1 E1 × ((j : ℕ) → j ≢ e.index → option_map (held_in_seat E1) (P1 j) ≡ option_map (held_in_seat (row_at s)) (seat_at w j))
     between =
         removed_change (seat_at w) P1 (row_at s) E1 e.index e.generation p.table p.row last final store.seated
         (moves_removes s s1 p to ids moved inside moves) own_seat final_row gone_between
@@ -283,7 +241,7 @@ module _ (w : Indexed Registration) (s s1 : List (Option TableState)) (e : Entit
     pushes = moves_pushes s s1 p to ids moved inside moves
 
     -- seats and rows name each other again, and what each other entity holds stays
-    to_change : IsSeated P' (row_at s1) × ((j : ℕ) → j ≢ e.index → option_map (seen (row_at s1)) (P' j) ≡ option_map (seen E1) (P1 j))
+    to_change : IsSeated P' (row_at s1) × ((j : ℕ) → j ≢ e.index → option_map (held_in_seat (row_at s1)) (P' j) ≡ option_map (held_in_seat E1) (P1 j))
     to_change =
         pushed_change P1 P' E1 (row_at s1) e.index e.generation to.table to.row came_row between.0 pushes gone_between came_is
         (ap seat_in (after_own came)) (λ j other. sym (kept_between j other))
@@ -305,14 +263,3 @@ module _ (w : Indexed Registration) (s s1 : List (Option TableState)) (e : Entit
         (λ t. Some (Living e.generation (record { name = r.name; arity = r.arity; held = held t })))
         ∙ sym (ap (change_kept (read w s) e (with_type ids)) (read_record w s e r own_record.1)
         ∙ (λ t. with_record (read w s) e (record { name = r.name; arity = r.arity; held = retyped ids (held_at (row_at s) (own_record.2 t)) })))
-
-pub some_from_copied : {X : Type 0} (o : Option (Bor X)) (s : Option X) → option_copied o ≡ s → IsSome s → IsSome o
-some_from_copied None s h there = absurd (let none : is_some s ≡ false = sym (ap is_some h) in true≢false (sym there ∙ none))
-some_from_copied (Some b) s h there = refl
-
--- what an entity holds, its row does
-pub held_there : (w : Indexed Registration) (s : List (Option TableState)) (e : Entity) (p : Place) → IsStore w s → own_place w e ≡ Some p
-    → (r : Registration) × (record_of w e ≡ Some r) × (held_at (row_at s) r.place ≡ (row_in s p.table p.row).held)
-held_there w s e p store own =
-    let r = placed_record w e p own in
-    (r.0, r.1, ap (held_at (row_at s)) r.2 ∙ ap held_of (slice_get-get_or (rows_in s p.table) p.row no_row (row_within w s e p store own)))

@@ -1,56 +1,22 @@
 -- What a store answers of one entity, and the store after a value or a name was written.
-use Rattle.eco_store.proofs.Common.{◌≡◌, ◌≢◌, ℕ, zero, suc, ◌<◌, Bool, true, false, not, ◌&&◌, List, [], ◌∷◌, map, length}
-use Rattle.eco_store.proofs.Common.{slice_get, set, get_or, Option, Some, None, option_map, option_and_then, unwrap_or, is_some, IsSome, IsTrue}
-use Rattle.eco_store.proofs.Common.{if◌then◌else◌, ◌==◌, Result, MatchBool, MatchOption, refl, sym, ap, subst, ◌∙◌, All, find, slice_get_within}
+use Rattle.eco_store.proofs.Common.{◌≡◌, ◌≢◌, ℕ, Bool, true, false, not, ◌&&◌, List, [], ◌∷◌}
+use Rattle.eco_store.proofs.Common.{slice_get, set, get_or, Option, Some, None, option_map, option_and_then, unwrap_or, is_some, IsTrue}
+use Rattle.eco_store.proofs.Common.{Result, MatchBool, MatchOption, refl, sym, ap, subst, ◌∙◌, find}
 use Rattle.eco_store.proofs.Common.{slice_get-get_or, Record, Entity, Id, Refusal, NotAlive, Reserved, BadName, NameTaken, Value, changed, change_kept, Indexed}
-use Rattle.eco_store.proofs.Common.{Living, record_in, record_of, is_alive, map_state, id_cmp, Meets, is_out_of_memory, first_refusal, Answers, Refuses}
-use Rattle.eco_store.proofs.Common.{TableState, TableRow, HasIds, AllHaveIds, slot_of, table_in, row_in, no_row, no_table, rows_in, SetsRows, Place}
+use Rattle.eco_store.proofs.Common.{Living, record_of, map_state, id_cmp, Meets, is_out_of_memory, first_refusal, Answers, Refuses}
+use Rattle.eco_store.proofs.Common.{TableState, TableRow, table_in, row_in, no_row, rows_in, SetsRows, Place}
 use Rattle.eco_store.proofs.Common.{Registration, given_name, own_place, renamed, Seat, IsSeated, seat_of, held_of, row_at, record_for, record_name, held_at}
-use Rattle.eco_store.proofs.Common.{held_in_store, read, seat_in, seat_at, HasPlace, IsStore, Stands, IsShown, seat_of_place, slice_get-set_there}
-use Rattle.eco_store.proofs.Common.{slice_get-set_other, living_at, record_at, map-set}
+use Rattle.eco_store.proofs.Common.{held_in_store, read, seat_in, seat_at, HasPlace, IsStore, Stands, slice_get-set_there}
+use Rattle.eco_store.proofs.Common.{slice_get-set_other, living_at, map-set}
 use Rattle.eco_ids.specs.Names.{is_proper, is_same_name}
 use Rattle.eco_ids.specs.Renaming.{own_name, unfit_rename, RenamesWith, may_rename}
 use Rattle.eco_ids.specs.Step.{with_name}
-use Rattle.eco_store.specs.Seats.{seen}
-use Rattle.eco_store.proofs.SeatChanges.{no_some, one_some, rewritten_seated, who}
+use Rattle.eco_places.specs.Seats.{held_in_seat}
+use Rattle.eco_places.proofs.Seated.{one_some, placed_record, seat_there, read_record, row_within, held_there}
+use Rattle.eco_places.proofs.Seated.{read_at, record_of-read, alive_same}
+use Rattle.eco_store.proofs.SeatChanges.{rewritten_seated, who}
 use Rattle.eco_store.proofs.Newborn.{is_borne-map}
-use Rattle.eco_store.proofs.StoreChanges.{place_from_seat, placed_record, seat_there, read_record, row_within, held_there}
-use Rattle.eco_store.proofs.Views.{alike_set, at_each, changed_at, each_state, read_at, seen_alike}
-
--- ---- readers
-
--- the row of an entity that has a place
-pub stands_there : (w : Indexed Registration) (s : List (Option TableState)) (e : Entity) (p : Place) (t : TableState)
-    → IsStore w s → own_place w e ≡ Some p → slot_of s p.table ≡ Some t → Stands (record_of (read w s) e) t p.row
-stands_there w s e p t store own at =
-    let r = placed_record w e p own in
-    let seat = store.seated.there e.index (seat_of e p.table p.row) (seat_there w e p own) in
-    let in_table : slice_get t.rows p.row ≡ Some seat.0 = sym (ap (λ o. slice_get (unwrap_or o no_table).rows p.row) at) ∙ seat.1 in
-    let within : p.row < length t.rows = slice_get_within t.rows p.row seat.0 in_table in
-    subst (λ o. Stands o t p.row) (sym (read_record w s e r.0 r.1)) (record {
-      within = within;
-      held = λ d.
-          ap (held_at (row_at s)) r.2 ∙ ap held_of seat.1
-          ∙ ap (λ (x : TableRow). x.held) (one_some (slice_get t.rows p.row) seat.0 (get_or t.rows p.row d) in_table
-          (slice_get-get_or t.rows p.row d within));
-    })
-
--- and the row is the entity's own
-pub own_there : (w : Indexed Registration) (s : List (Option TableState)) (e : Entity) (p : Place) (t : TableState)
-    → IsStore w s → own_place w e ≡ Some p → slot_of s p.table ≡ Some t → (d : TableRow) → (get_or t.rows p.row d).entity ≡ e
-own_there w s e p t store own at d =
-    let seat = store.seated.there e.index (seat_of e p.table p.row) (seat_there w e p own) in
-    let in_table : slice_get t.rows p.row ≡ Some seat.0 = sym (ap (λ o. slice_get (unwrap_or o no_table).rows p.row) at) ∙ seat.1 in
-    let within : p.row < length t.rows = slice_get_within t.rows p.row seat.0 in_table in
-    sym (ap (λ (x : TableRow). x.entity)
-    (one_some (slice_get t.rows p.row) seat.0 (get_or t.rows p.row d) in_table (slice_get-get_or t.rows p.row d within)))
-    ∙ seat.2
-
-pub stands_type : (o : Option Record) (t : TableState) (row : ℕ) → Stands o t row → All (HasIds t.ids) t.rows
-    → ◌≡◌ {A = Option (List Id)} (Some t.ids) (option_map (λ k. map (λ p. p.0) k.held) o)
-stands_type None t row h typed = absurd h
-stands_type (Some k) t row h typed =
-    sym (ap Some (ap (λ xs. map (λ p. p.0) xs) (h.held no_row) ∙ typed row no_row h.within))
+use Rattle.eco_store.proofs.Views.{alike_set, at_each, changed_at, seen_alike}
 
 -- what a search of an entity's row finds, the entity has
 pub value_found : (o : Option Record) (t : TableState) (row : ℕ) (i : Id) (v : Option Value) → Stands o t row
@@ -99,7 +65,7 @@ module _ (w : Indexed Registration) (s s1 : List (Option TableState)) (e : Entit
   pub written_store : IsStore w s1
   written_store = record { seated = rewritten_seated (seat_at w) (row_at s) (row_at s1) entities_same store.seated; placed = store.placed }
 
-  others_seen : (j : ℕ) → j ≢ e.index → (o : Option Seat) → seat_at w j ≡ o → option_map (seen (row_at s1)) o ≡ option_map (seen (row_at s)) o
+  others_seen : (j : ℕ) → j ≢ e.index → (o : Option Seat) → seat_at w j ≡ o → option_map (held_in_seat (row_at s1)) o ≡ option_map (held_in_seat (row_at s)) o
   others_seen j other None h = refl
   others_seen j other (Some q) h =
       let mine = store.seated.there j q h in
@@ -137,26 +103,6 @@ module _ (w : Indexed Registration) (s s1 : List (Option TableState)) (e : Entit
       (λ t. record { limit = w.limit; indices = indices t }) ∙ sym (ap (change_kept (read w s) e held_anew) before)
 
 -- ---- a name given
-record_of-read : (w : Indexed Registration) (s : List (Option TableState)) (e : Entity) →
-    record_of (read w s) e ≡ option_map (record_for (row_at s)) (record_of w e)
-record_of-read w s e =
-    ap (λ o. record_in o e.generation) (read_at w s e.index _ refl)
-    ∙ each_state
-    (λ o. record_in (option_map (map_state (record_for (row_at s))) o) e.generation ≡ option_map (record_for (row_at s)) (record_in o e.generation))
-    refl refl (λ g. refl) (λ g. with_test (e.generation == g)) (slice_get w.indices e.index)
-  where
-    with_test : (b : Bool) (r : Registration) → ◌≡◌ {A = Option Record} (if b then Some (record_for (row_at s) r) else None)
-        (option_map (record_for (row_at s)) (if b then Some r else None))
-    with_test true r = refl
-    with_test false r = refl
-
-pub alive_same : (w : Indexed Registration) (s : List (Option TableState)) (e : Entity) → is_alive (read w s) e ≡ is_alive w e
-alive_same w s e = ap is_some (record_of-read w s e) ∙ by (record_of w e)
-  where
-    by : (o : Option Registration) → is_some (option_map (record_for (row_at s)) o) ≡ is_some o
-    by None = refl
-    by (Some r) = refl
-
 module _ (w : Indexed Registration) (s : List (Option TableState)) (e : Entity) (name : Option (List ℕ)) where
   renamed_store : IsStore w s → IsStore (changed w e (renamed name)) s
   renamed_store store = record {
@@ -216,50 +162,3 @@ module _ (w : Indexed Registration) (s : List (Option TableState)) (e : Entity) 
             subst (λ u. MatchOption u (Answers tt (changed (read w s) e (with_name name)) r (read w1 s)) (λ why. Refuses why (read w s) r (read w1 s)))
                 (sym unfit_same) k.1,
           )
-
--- ---- the tables show the store
-
-pub slot_there : (s : List (Option TableState)) (n k : ℕ) (r : TableRow) → row_at s n k ≡ Some r → slot_of s n ≡ Some (table_in s n)
-slot_there s n k r = by (slot_of s n)
-  where
-    nothing : (k : ℕ) → slice_get no_table.rows k ≡ None
-    nothing zero = refl
-    nothing (suc k) = refl
-
-    by : (o : Option TableState) → slice_get (unwrap_or o no_table).rows k ≡ Some r → o ≡ Some (unwrap_or o no_table)
-    by None h = absurd (no_some (slice_get no_table.rows k) r (nothing k) h)
-    by (Some t) h = refl
-
-pub from_read : (w : Indexed Registration) (s : List (Option TableState)) (e : Entity) (k : Record) → record_of (read w s) e ≡ Some k →
-    (r : Registration) × (record_of w e ≡ Some r)
-from_read w s e k h = by (record_of w e) (sym (record_of-read w s e) ∙ h)
-  where
-    by : (o : Option Registration) → option_map (record_for (row_at s)) o ≡ Some k → (r : Registration) × (o ≡ Some r)
-    by None q = absurd (cc)
-    by (Some r) q = (r, refl)
-
-pub has_place : (o : Option Place) → IsSome o → (p : Place) × (o ≡ Some p)
-has_place None h = absurd (cc)
-has_place (Some p) h = (p, refl)
-
-pub shows : (w : Indexed Registration) (s : List (Option TableState)) → IsStore w s → AllHaveIds s → IsShown (read w s) s
-shows w s store own = record {
-  rows = λ n k r h.
-      let found = place_from_seat (slice_get w.indices r.entity.index) r.entity n k (store.seated.back n k r h) in
-      let own : own_place w r.entity ≡ Some (record { table = n; row = k }) =
-      ap (option_and_then (λ (x : Registration). x.place)) (record_at w r.entity found.0 found.1) ∙ found.2 in
-      stands_there w s r.entity (record { table = n; row = k }) (table_in s n) store own (slot_there s n k r h);
-  living = λ e x h.
-      let reg = from_read w s e x h in
-      let at = living_at w e reg.0 reg.1 in
-      let place = has_place reg.0.place (subst HasPlace at (store.placed e.index)) in
-      let seat : seat_at w e.index ≡ Some (seat_of e place.0.table place.0.row) = ap seat_in at ∙ ap (option_map (seat_of_place e.generation)) place.1 in
-      let there = store.seated.there e.index (seat_of e place.0.table place.0.row) seat in
-      (place.0.table, place.0.row, there.0, there.1, there.2);
-  once = λ n k m j r x a b same.
-      let one : seat_at w r.entity.index ≡ Some (seat_of r.entity n k) = store.seated.back n k r a in
-      let two : seat_at w r.entity.index ≡ Some (seat_of x.entity m j) = ap (λ (e : Entity). seat_at w e.index) same ∙ store.seated.back m j x b in
-      let both = one_some (seat_at w r.entity.index) _ _ one two in
-      (ap (λ (q : Seat). q.slot) both, ap (λ (q : Seat). q.row) both);
-  own = own;
-}

@@ -1,10 +1,11 @@
 -- What is seen of a store after places and rows changed.
 use Rattle.eco_store.proofs.Common.{◌≡◌, ◌≢◌, ℕ, suc, List, [], ◌∷◌, set, slice_get, Option, Some, None, option_map, unwrap_or, is_some}
-use Rattle.eco_store.proofs.Common.{IsTrue, refl, sym, ap, subst, ◌∙◌, ◌+◌, nat_lt, Bool, true, false, if◌then◌else◌, inl, inr, cases_eq}
+use Rattle.eco_store.proofs.Common.{IsTrue, refl, sym, subst, ◌∙◌, ◌+◌, nat_lt, Bool, true, false, if◌then◌else◌, inl, inr, cases_eq}
 use Rattle.eco_store.proofs.Common.{Record, Entity, Id, Value, changed, change_kept, Indexed, IndexState, Retired, Free, Living, record_of, is_alive, map_state}
 use Rattle.eco_store.proofs.Common.{raised, TableState, TableRow, Place, Registration, row_at, record_for, held_at, read, seat_in, seat_at, seat_of_place}
-use Rattle.eco_store.proofs.Common.{slice_get-map, slice_get-set_there, slice_get-set_other, living_at}
-use Rattle.eco_store.specs.Seats.{seen}
+use Rattle.eco_store.proofs.Common.{slice_get-set_there, slice_get-set_other, living_at}
+use Rattle.eco_places.specs.Seats.{held_in_seat}
+use Rattle.eco_places.proofs.Seated.{read_at}
 
 -- what holds of one number and of each other holds of all
 pub at_each : (n : ℕ) (C : ℕ → Type 0) → C n → ((m : ℕ) → m ≢ n → C m) → (m : ℕ) → C m
@@ -52,14 +53,6 @@ changed_at {A} w e f Q same there j = by (record_of w e) refl
         (subst (Q (Some (Living e.generation r))) (sym (slice_get-set_there w.indices e.index now _ was)) (there e.generation r)))
         (λ k other. subst (Q (slice_get w.indices k)) (sym (slice_get-set_other w.indices e.index k now other)) (same _)) j
 
--- what holds of an index where nobody lives, and of one where somebody does, holds of each
-pub each_state : {A : Type 0} (C : Option (IndexState A) → Type 0) → C None → C (Some Retired) → ((g : ℕ) → C (Some (Free g)))
-    → ((g : ℕ) (r : A) → C (Some (Living g r))) → (o : Option (IndexState A)) → C o
-each_state C none retired free living None = none
-each_state C none retired free living (Some Retired) = retired
-each_state C none retired free living (Some (Free g)) = free g
-each_state C none retired free living (Some (Living g r)) = living g r
-
 -- who died leaves the index free, or retired
 pub raised_either : {A : Type 0} (g : ℕ) (C : IndexState A → Type 0) → ((h : ℕ) → C (Free h)) → C Retired → C (raised g)
 raised_either g C free retired = by (nat_lt g 65535)
@@ -90,26 +83,21 @@ glue (Some (Free g)) h = Some (Free g)
 glue (Some (Living g r)) h = Some (Living g (record r { held = unwrap_or h [] }))
 
 glued : (E : ℕ → ℕ → Option TableRow) (o : Option (IndexState Registration)) →
-    option_map (map_state (record_for E)) o ≡ glue (option_map (map_state bare) o) (option_map (seen E) (seat_in o))
+    option_map (map_state (record_for E)) o ≡ glue (option_map (map_state bare) o) (option_map (held_in_seat E) (seat_in o))
 glued E None = refl
 glued E (Some Retired) = refl
 glued E (Some (Free g)) = refl
 glued E (Some (Living g r)) = by r.place
   where
     by : (p : Option Place) → ◌≡◌ {A = Option (IndexState Record)} (Some (Living g (record { name = r.name; arity = r.arity; held = held_at E p })))
-        (Some (Living g (record { name = r.name; arity = r.arity; held = unwrap_or (option_map (seen E) (option_map (seat_of_place g) p)) [] })))
+        (Some (Living g (record { name = r.name; arity = r.arity; held = unwrap_or (option_map (held_in_seat E) (option_map (seat_of_place g) p)) [] })))
     by None = refl
     by (Some p) = refl
-
--- what is seen at an index
-pub read_at : (w : Indexed Registration) (s : List (Option TableState)) (j : ℕ) (o : Option (IndexState Registration)) → slice_get w.indices j ≡ o
-    → slice_get (read w s).indices j ≡ option_map (map_state (record_for (row_at s))) o
-read_at w s j o is = slice_get-map (map_state (record_for (row_at s))) w.indices j ∙ ap (option_map (map_state (record_for (row_at s)))) is
 
 -- what is seen at an index, by the name and the row
 pub seen_alike : (w w' : Indexed Registration) (s s' : List (Option TableState)) (j : ℕ)
     → bare_at w' j ≡ bare_at w j
-    → option_map (seen (row_at s')) (seat_at w' j) ≡ option_map (seen (row_at s)) (seat_at w j)
+    → option_map (held_in_seat (row_at s')) (seat_at w' j) ≡ option_map (held_in_seat (row_at s)) (seat_at w j)
     → slice_get (read w' s').indices j ≡ slice_get (read w s).indices j
 seen_alike w w' s s' j names rows =
     read_at w' s' j _ refl ∙ glued (row_at s') (slice_get w'.indices j) ∙ (λ t. glue (names t) (rows t))

@@ -1,14 +1,7 @@
-pub mod Seats
 pub mod Placing
 pub mod Store
-pub mod Ranking
-pub mod Ranked
-pub mod Holders
-pub mod Deaths
-pub mod Retyping
 pub mod Transfers
 pub mod Moving
 pub mod Staying
 pub mod Layout
 pub mod Lent
-pub mod Worlds

@@ -11,9 +11,10 @@ ghost use Rattle.eco_ids.specs.Order.{id_cmp, is_ascending};
 ghost use Rattle.eco_ids.specs.Renaming.{own_name};
 ghost use Rattle.eco_entities.specs.Registration.{entity_at, given_name};
 ghost use Rattle.eco_tables.specs.Table.{TableRow};
-ghost use Rattle.eco_store.specs.Store.{Admission, CreatesRecord, RenamesRecord, MakesRecordAlive, held_in_store};
-ghost use Rattle.eco_store.specs.Store.{own_arity_in_store, fits_in_store, record_name, type_in_store};
-ghost use Rattle.eco_store.specs.Store.{record_with_written, Stands};
+ghost use Rattle.eco_store.specs.Store.{Admission, CreatesRecord, RenamesRecord, MakesRecordAlive};
+ghost use Rattle.eco_store.specs.Store.{own_arity_in_store, fits_in_store, record_name, record_with_written};
+ghost use Rattle.eco_places.specs.Records.{held_in_store, type_in_store};
+ghost use Rattle.eco_places.specs.Shown.{Stands};
 ghost use Rattle.eco_store.specs.Lent.{AreTablesOf, IsTableOf, KeepsData};
 
 use crate::layout::Layout;
@@ -31,8 +32,8 @@ mod copying;
 mod deaths;
 mod exchanging;
 mod moves;
+mod population;
 mod searching;
-mod standing;
 mod stepping;
 mod viewing;
 
@@ -167,8 +168,7 @@ impl Store {
     pub fn type_of(&self, e: Entity) -> Option<&TypeList>
         ensures { option_copied result ≡ type_in_store self.now.entities e }
     {
-        let (table, _) = self.stand(e)?;
-        Some(table.type_list())
+        self.places().type_of(e)
     }
 
     /// The ids of an entity, ascending; none where it isn't living.

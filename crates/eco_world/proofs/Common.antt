@@ -76,12 +76,13 @@ pub use Rattle.eco_query.specs.Queries.{QuerySlot, exactly, holds, matches_type}
 pub use Rattle.eco_stages.specs.Commands.{command_of, commands_of}
 pub use Rattle.eco_stages.specs.Merging.{AreDone, all_commands, has_commands}
 pub use Rattle.eco_stages.specs.Outcomes.{Outcomes, Written}
-pub use Rattle.eco_store.specs.Holders.{entities_with, has_match}
+pub use Rattle.eco_places.specs.Holders.{entities_with, has_match}
 pub use Rattle.eco_store.specs.Lent.{KeepData, KeepsData}
-pub use Rattle.eco_store.specs.Store.{IsShown, Stands, StoreState, newborn, record_ids, record_name, record_with_written, stepped, with_exchanged, with_toggled}
-pub use Rattle.eco_store.specs.Store.{with_type}
-pub use Rattle.eco_store.specs.Worlds.{world_of}
-pub use Rattle.eco_store.specs.declared.type_change.TypeChange.{TypeChange}
+pub use Rattle.eco_places.specs.Shown.{IsShown, Stands}
+pub use Rattle.eco_store.specs.Store.{StoreState, newborn, record_name, record_with_written}
+pub use Rattle.eco_places.specs.Records.{record_ids, stepped, with_exchanged, with_toggled, with_type}
+pub use Rattle.eco_places.specs.Worlds.{world_of}
+pub use Rattle.eco_places.specs.declared.type_change.TypeChange.{TypeChange}
 pub use Rattle.eco_tables.specs.Column.{retyped, value_in, with_held}
 pub use Rattle.eco_tables.specs.Table.{HasIds, TableRow, TableState, entities_of, paired, width_in}
 pub use Rattle.eco_tables.specs.Tables.{no_row, no_table, slot_of, table_in}

@@ -9,7 +9,7 @@ use Rattle.eco_world.proofs.Common.{QueryTerm, world_of, symmetric_target, world
 use Rattle.std.specs.List.{Contains}
 use Rattle.eco_ids.specs.Indices.{record_of}
 use Rattle.eco_ids.specs.Laws.{Keeps}
-use Rattle.eco_store.specs.Retyping.{IsTypeWith}
+use Rattle.eco_places.specs.Retyping.{IsTypeWith}
 use Rattle.eco_cleanup.specs.Plans.{TakesOutOfAll}
 use Rattle.eco_world.proofs.Holders.{matches_exactly}
 use Rattle.eco_world.proofs.Changes.{sorted_at}

@@ -1,26 +1,15 @@
-//! The tables of a store, to read and to search.
-ghost use Rattle.eco_store.specs.Store.{IsShown};
+//! The entities and the tables of a store, to read and to search.
+ghost use Rattle.std.specs.Prelude.{◌≡◌};
 
-use crate::places::Places;
 use crate::store::Store;
-use eco_archetypes::Archetypes;
+use eco_places::Places;
 
 impl Store {
-    /// The tables, to read and to search, as [`tables`](Store::tables) shows them.
-    pub fn archetypes(&self) -> &Archetypes
-        ensures { IsShown self.now.entities result.now }
-    {
-        let archetypes = &self.layout.archetypes;
-        archetypes.tables().rows_have_ids();
-        archetypes
-    }
-
-    /// The tables, to read and to search, and the place of each living entity in them.
+    /// The entities and the tables, to read and to search.
+    #[inline]
     pub fn places(&self) -> Places<'_>
-        ensures { IsShown self.now.entities result }
+        ensures { result.entities ≡ self.now.entities }
     {
-        let archetypes = &self.layout.archetypes;
-        archetypes.tables().rows_have_ids();
-        Places::new(&self.layout.entities, archetypes)
+        Places::new(&self.layout.entities, &self.layout.archetypes)
     }
 }

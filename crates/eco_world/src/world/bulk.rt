@@ -9,8 +9,8 @@ ghost use Rattle.eco_cleanup.specs.Plans.{TakesOutOfAll};
 
 use crate::world::World;
 use eco_ids::{Entity, Id, Refusal};
+use eco_places::TypeChange;
 use eco_query::exactly;
-use eco_store::TypeChange;
 use std::alloc::AllocError;
 
 impl World {

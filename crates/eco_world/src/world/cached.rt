@@ -45,7 +45,12 @@ impl World {
         ensures err { IfErr result (RefusesQuery self.now query.0 (may_query self.now)) }
     {
         let kept = self.kept(query)?;
-        let results = results_of(self.alloc, &self.store, &kept.query, Some(kept.cache))?;
+        let results = results_of(
+            self.alloc,
+            &self.store.places(),
+            &kept.query,
+            Some(kept.cache),
+        )?;
         Ok(results)
     }
 

@@ -5,7 +5,7 @@ ghost use Rattle.eco_ids.specs.Delete.{DeletesOne, may_delete, DeletesWith, may_
 ghost use Rattle.eco_ids.specs.Outcome.{Meets};
 ghost use Rattle.eco_ids.specs.World.{living};
 ghost use Rattle.eco_index.specs.TypeTests.{type_names};
-ghost use Rattle.eco_store.specs.Store.{record_ids};
+ghost use Rattle.eco_places.specs.Records.{record_ids};
 
 use crate::world::World;
 use eco_ids::{Entity, Id, Refusal};

@@ -9,7 +9,7 @@ ghost use Rattle.eco_ids.specs.Mirrors.{goes_too, mirror_of};
 ghost use Rattle.eco_ids.specs.Order.{entity_eq};
 ghost use Rattle.eco_ids.specs.Step.{changed, has_ids, is_held, is_reserved, with_mirror};
 ghost use Rattle.eco_ids.specs.World.{has, is_alive, is_symmetric};
-ghost use Rattle.eco_store.specs.Store.{with_toggled, with_type};
+ghost use Rattle.eco_places.specs.Records.{with_toggled, with_type};
 ghost use Rattle.eco_traits.specs.Target.{TakesOwn, type_meant};
 ghost use Rattle.eco_world.specs.declared.loss.Loss.TheVariants.{All, Everywhere};
 ghost use Rattle.eco_world.specs.Losses as losses;

@@ -57,7 +57,7 @@ impl World {
         ensures err { IfErr result (λ why. why ≡ OutOfMemory) }
         ensures some { OnErr result (IsTrue (may_query self.now (asked query.now))) }
     {
-        let results = results_of(self.alloc, &self.store, query, None)?;
+        let results = results_of(self.alloc, &self.store.places(), query, None)?;
         Ok(results)
     }
 

@@ -4,8 +4,8 @@ use Rattle.eco_cleanup.proofs.ties.Ties.append_listed.Goals as goal
 
 pub returns : goal.returns
 returns c =
-    let w = world_of c.args.self.now.store.now.entities in
-    let slots = c.args.self.now.places in
+    let w = world_of c.args.self.now.places.now.entities in
+    let slots = c.args.self.now.places.now.slots in
     let items = c.listed-slot-items.result.now in
     listed_come w slots c.args.member c.args.pattern items c.args.found.now.items c.loop-slot.found.items
     (rw c.archetypes.ensures at c.listed-slot-items.ensures.listed)

@@ -3,6 +3,6 @@ use Rattle.eco_cleanup.proofs.ties.Ties.changes.Given as goal
 
 abbrev pub invariant-loop-node : goal.invariant-loop-node
 invariant-loop-node l = record {
-  changes : l.changes.items ≡ flat_map (changes_at l.self.places l.doomed.nodes.keys) (take l.node-index l.node-items);
+  changes : l.changes.items ≡ flat_map (changes_at l.self.places.now.slots l.doomed.nodes.keys) (take l.node-index l.node-items);
   ascend : Ascend l.changes.items;
 }

@@ -5,8 +5,8 @@ use Rattle.eco_cleanup.proofs.ties.Ties.only_in.Goals as goal
 
 pub returns-clause-only : goal.returns-clause-only
 returns-clause-only c =
-    let v = c.args.self.now.store.now.entities in
-    let slots = c.args.self.now.places in
+    let v = c.args.self.now.places.now.entities in
+    let slots = c.args.self.now.places.now.slots in
     let n = c.in-Named.slot in
     let m = c.args.member in
     let here : table_in slots n ≡ c.in_ok-table.table.now = sym (ap (λ o. unwrap_or o no_table) c.in_ok-table.ensures) in

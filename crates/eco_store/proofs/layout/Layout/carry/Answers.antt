@@ -6,11 +6,12 @@ use Rattle.eco_store.proofs.Needing.{fixed_covers, placed_covers}
 use Rattle.eco_store.proofs.RowCounts.{own_fits, end_fits}
 use Rattle.eco_store.proofs.Rowless.{rowless_moved}
 use Rattle.eco_store.proofs.StoreChanges as changes
+use Rattle.eco_places.proofs.Seated.{row_within}
 use Rattle.eco_store.proofs.layout.Layout.carry.Goals as goal
 
 pub move_row-filler-requires-clause-row : goal.move_row-filler-requires-clause-row
 move_row-filler-requires-clause-row c =
-    changes.row_within c.args.self.now.entities c.args.self.now.archetypes c.args.e c.args.place c.requires.laid.store c.requires.own
+    row_within c.args.self.now.entities c.args.self.now.archetypes c.args.e c.args.place c.requires.laid.store c.requires.own
 
 pub fix_place-requires-clause-living : goal.fix_place-requires-clause-living
 fix_place-requires-clause-living c =
@@ -72,7 +73,7 @@ returns c =
     let n = c.args.to in
     let p = c.args.place in
     let s1 = c.move_row-filler.new.self in
-    let there = changes.row_within l.entities s c.args.e p c.requires.laid.store c.requires.own in
+    let there = row_within l.entities s c.args.e p c.requires.laid.store c.requires.own in
     let to : Place = record { table = n; row = c.row_count-row.result } in
     let end = c.row_count-row.ensures ∙ ap (λ s. length (rows_in s n)) c.tables.ensures.same in
     let moves =

@@ -1,6 +1,5 @@
 use Rattle.eco_store.proofs.Common.{◌≡◌, IsTrue, ap, sym, ◌∙◌, refl, subst, unwrap_or, list_any, nat_eq, changed, no_table, toggled}
-use Rattle.eco_store.proofs.Common.{typed_table, seen}
-use Rattle.eco_store.proofs.Common.{with_type, rows_from_slots, Layout, SameSlots, StayingState}
+use Rattle.eco_store.proofs.Common.{typed_table, seen, with_type, rows_from_slots, Layout, SameSlots, StayingState}
 use Rattle.eco_store.proofs.Coupled.{leaves_from, move_leaves, not_turned}
 use Rattle.eco_store.proofs.Laid.{plans_seen, seen_alike}
 use Rattle.eco_store.proofs.Stepping.{leads_to}

@@ -1,7 +1,7 @@
 use Rattle.eco_store.proofs.Common.{sym, ap, unwrap_or, no_table, ◌∙◌, option_copied, slot_of, there_by_row}
 use Rattle.eco_store.proofs.Lent.{kept_there, lent_tables}
-use Rattle.eco_store.proofs.StoreChanges.{some_from_copied, row_within}
-use Rattle.eco_store.proofs.Values.{own_there, stands_there}
+use Rattle.eco_places.proofs.Seated.{some_from_copied, row_within}
+use Rattle.eco_places.proofs.Shows.{own_there, stands_there}
 use Rattle.eco_store.proofs.store.Store.stand.Goals as goal
 
 pub unwrap-table-requires : goal.unwrap-table-requires

@@ -14,7 +14,7 @@ use Rattle.eco_ids.specs.Least.{root, next}
 use Rattle.eco_ids.specs.Order.{entity_eq, has_item, id_cmp, id_eq}
 use Rattle.eco_ids.proofs.Exact.{keys, keys_find}
 use Rattle.eco_ids.proofs.Keeps.{has_in}
-use Rattle.eco_systems.proofs.ClosedLists.{brought_head, one_brings, own_head, wild_brings}
+use Rattle.eco_systems.specs.Laws.{HeadsBring}
 use Rattle.eco_ids.specs.Mirrors.{is_with}
 use Rattle.eco_traits.specs.Target.{type_of_record}
 use Rattle.eco_search.specs.Search.{Appends, Covers, IsInLeast, IsLeastSet, is_among}
@@ -53,17 +53,19 @@ by_id p q (id.Two r x) m = by (entity_eq r WITH) refl m
     by false e none = absurd none
 
 -- a pattern brings what the ids of its head say
-pub brought_by_ids : (w : WorldState) (p : Pattern) (h : Entity) (ids : List Id) → pattern_head p ≡ Some h
-    → ((x : Entity) → has w h (id.Two WITH x) ≡ has_item id_cmp ids (id.Two WITH x)) → (q : Pattern) → BringsPattern w p q ↔ Member q (brought p ids)
-brought_by_ids w p h ids at own q = (
-  λ b. let one = brought_head w p h q (subst (λ r. BringsPattern w r q) (sym (own_head w p h at)) b) in
-      in_flat (λ i. option_to_list (brought_by p i)) (id.Two WITH one.0) q ids ((item_is_member ids (id.Two WITH one.0)).0 (sym (own one.0) ∙ one.1))
-      (subst (λ o. Member q (option_to_list o)) (sym (by_with p one.0)) (inl (sym one.2))),
+pub brought_by_ids : HeadsBring → (w : WorldState) (p : Pattern) (h : Entity) (ids : List Id) → pattern_head p ≡ Some h
+    → ((x : Entity) → has w h (id.Two WITH x) ≡ has_item id_cmp ids (id.Two WITH x)) → (q : Pattern)
+    → BringsPattern w p q ↔ Member q (brought p ids)
+brought_by_ids brings w p h ids at own q = (
+  λ b.
+      let (g, x, head, pair, is) = (brings w p q).0 b in
+      let held = subst (λ e. IsTrue (has w e (id.Two WITH x))) (same_Some g h (sym head ∙ at)) pair in
+      in_flat (λ i. option_to_list (brought_by p i)) (id.Two WITH x) q ids ((item_is_member ids (id.Two WITH x)).0 (sym (own x) ∙ held))
+      (subst (λ o. Member q (option_to_list o)) (sym (by_with p x)) (inl (sym is))),
   λ m.
       let some = from_flat (λ i. option_to_list (brought_by p i)) q ids m in
-      let one = by_id p q some.0 some.2 in
-      subst (BringsPattern w p) one.2 (subst (λ r. BringsPattern w r (pattern_with_head p one.0)) (own_head w p h at) (one_brings w p h one.0
-      (own one.0 ∙ (item_is_member ids (id.Two WITH one.0)).1 (subst (λ i. Member i ids) one.1 some.1)))),
+      let (x, pair, is) = by_id p q some.0 some.2 in
+      (brings w p q).1 (h, x, at, own x ∙ (item_is_member ids (id.Two WITH x)).1 (subst (λ i. Member i ids) pair some.1), sym is),
 )
 
 has_listed : (o : Option Record) (i : Id) (ids : List Id) → Some ids ≡ option_map type_of_record o → has_in o i ≡ has_item id_cmp ids i
@@ -140,7 +142,8 @@ target_listed m n (Is e) h =
     inr (inr (in_flat (λ i. map (λ g. Is (record { index = i; generation = g })) (below n)) e.index (Is e) (below m) (below_has e.index m h.0)
     (in_map (λ g. Is (record { index = e.index; generation = g })) e.generation (below n) (below_has e.generation n h.1))))
 
-held_by : (states : List (IndexState Record)) (n g : ℕ) (i : Id) → IsTrue (has_in (record_in (slice_get states n) g) i) → Member i (flat_map ids_in states)
+held_by : (states : List (IndexState Record)) (n g : ℕ) (i : Id) → IsTrue (has_in (record_in (slice_get states n) g) i)
+    → Member i (flat_map ids_in states)
 held_by [] n g i h = absurd (true≢false (sym h))
 held_by (Retired ∷ rest) zero g i h = absurd (true≢false (sym h))
 held_by (Free f ∷ rest) zero g i h = absurd (true≢false (sym h))
@@ -158,15 +161,18 @@ module _ (w : WorldState) where
   known_by targets e x k h m =
       in_flat (keys_by targets) (id.Two WITH x) k (flat_map ids_in w.indices) (held_by w.indices e.index e.generation (id.Two WITH x) h) m
 
-  known_below : (m n : ℕ) (p q : Pattern) → HasTargetBelow m n p → BringsPattern w p q
+  known_below : HeadsBring → (m n : ℕ) (p q : Pattern) → HasTargetBelow m n p → BringsPattern w p q
       → Member (pattern_key q) (flat_map (keys_by (targets_below m n)) (flat_map ids_in w.indices))
-  known_below m n (One c) (One x) is b = known_by (targets_below m n) c x (pattern_key (One x)) b (inl refl)
-  known_below m n (Two Each t) q is b = absurd (wild_brings w (Two Each t) q refl b)
-  known_below m n (Two Any t) q is b = absurd (wild_brings w (Two Any t) q refl b)
-  known_below m n (Two (Is r) t) (Two (Is x) u) is b =
-      known_by (targets_below m n) r x (pattern_key (Two (Is x) u)) b.0
-      (inr (in_map (λ q. pattern_key (Two (Is x) q)) u (targets_below m n) (target_listed m n u (subst (IsBelow m n) (sym b.1) is))))
-  known_below m n _ _ is b = absurd b
+  known_below brings m n p q is b =
+      let (h, x, at, pair, same) = (brings w p q).0 b in
+      subst (λ r. Member (pattern_key r) (flat_map (keys_by (targets_below m n)) (flat_map ids_in w.indices))) (sym same) (by h x pair p is)
+    where
+      by : (h x : Entity) → IsTrue (has w h (id.Two WITH x)) → (p : Pattern) → HasTargetBelow m n p
+          → Member (pattern_key (pattern_with_head p x)) (flat_map (keys_by (targets_below m n)) (flat_map ids_in w.indices))
+      by h x pair (One c) is = known_by (targets_below m n) h x (pattern_key (One x)) pair (inl refl)
+      by h x pair (Two r t) is =
+          known_by (targets_below m n) h x (pattern_key (Two (Is x) t)) pair
+          (inr (in_map (λ q. pattern_key (Two (Is x) q)) t (targets_below m n) (target_listed m n t is)))
 
   among_is_member : (ks : List Key) (k : Key) → IsTrue (is_among same_key ks k) ↔ Member k ks
   among_is_member ks k = (
@@ -174,8 +180,8 @@ module _ (w : WorldState) where
     λ m. passes (same_key k) ks m ((pattern_eq-Decides k.pattern k.pattern).1 refl),
   )
 
-  pub all_known : (p : Key) → HasKnownTarget p.pattern → Covers same_key (known_keys w) (Brings w p)
-  all_known p is q b = (among_is_member (known_keys w) q).1 (known_below (2 ^ 32) (2 ^ 16) p.pattern q.pattern (target_below p.pattern is) b)
+  pub all_known : HeadsBring → (p : Key) → HasKnownTarget p.pattern → Covers same_key (known_keys w) (Brings w p)
+  all_known brings p is q b = (among_is_member (known_keys w) q).1 (known_below brings (2 ^ 32) (2 ^ 16) p.pattern q.pattern (target_below p.pattern is) b)
 
   -- ---- closures
 

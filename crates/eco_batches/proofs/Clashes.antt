@@ -9,7 +9,7 @@ use Rattle.eco_ids.proofs.Further.{found_at}
 use Rattle.eco_systems.specs.Batches.{Conflict, Disturbs, AreBatches}
 use Rattle.eco_systems.specs.Laws.{JoiningMakesBatches, OrderHasSystems}
 use Rattle.eco_systems.specs.Systems.{SystemModel, system_reads}
-use Rattle.eco_systems.proofs.ClosedLists.{nothing_closed}
+use Rattle.eco_batches.proofs.Brings.{closed_alone}
 
 -- ---- an outline for each system
 
@@ -27,7 +27,7 @@ module _ (w : WorldState) where
   outlined_at _ _ h k = absurd h
 
   traits_exact : (d : Option Declared) (o : Option OutlineModel) → Outlined d o → IsTrue (traits_in o) ↔ IsTraitWriter w (system_in d)
-  traits_exact None None h = (λ t. absurd (true≢false (sym t)), λ x. absurd (nothing_closed w (x.1).1))
+  traits_exact None None h = (λ t. absurd (true≢false (sym t)), λ x. absurd ((closed_alone w [] tt (x.1).0).1 (x.1).1))
   traits_exact (Some d) (Some o) h = (
     λ t. (h.closed (writes_trait w.edition)).0 (sym h.traits ∙ t),
     λ x. h.traits ∙ (h.closed (writes_trait w.edition)).1 x,
@@ -40,7 +40,7 @@ module _ (w : WorldState) where
         (λ k. traits_exact (slice_get ds k) (slice_get os k) (outlined_at ds os all k))
 
   no_disturbance : (t : SystemModel) → Disturbs w no_system t → ⊥
-  no_disturbance t x = nothing_closed w (x.1).1
+  no_disturbance t x = (closed_alone w [] tt (x.1).0).1 (x.1).1
 
   kills_exact : (d : Option Declared) (o : Option OutlineModel) → Outlined d o → IsTrue (kills_in o) ↔ IsTrue (system_in d).kills
   kills_exact None None h = (λ k. k, λ k. k)
@@ -64,10 +64,12 @@ module _ (w : WorldState) where
   disturbs_exact : (d t : Option Declared) (o : Option OutlineModel) → Outlined d o
       → IsTrue (disturbs (closed_in o) (reads_in t)) ↔ Disturbs w (system_in d) (system_in t)
   disturbs_exact d t o h =
-      subst (λ reads. IsTrue (disturbs (closed_in o) reads) ↔ Disturbs w (system_in d) (system_in t)) (sym (same_reads t)) (disturbs_listed d o h (system_in t))
+      subst (λ reads. IsTrue (disturbs (closed_in o) reads) ↔ Disturbs w (system_in d) (system_in t)) (sym (same_reads t))
+      (disturbs_listed d o h (system_in t))
 
   module _ (late : Bool) (until : List SystemModel) (is_late : IsTrue late ↔ SomeOf (IsTraitWriter w) until) where
-    pair_exact : (s t : Option Declared) (o : Option OutlineModel) → Outlined s o → IsTrue (clash_of o t late) ↔ Conflict w until (system_in s) (system_in t)
+    pair_exact : (s t : Option Declared) (o : Option OutlineModel) → Outlined s o
+        → IsTrue (clash_of o t late) ↔ Conflict w until (system_in s) (system_in t)
     pair_exact s t o h =
         Decides-or (kills_in o) (kills_too t || (late || disturbs (closed_in o) (reads_in t))) (kills_exact s o h)
         (Decides-or (kills_too t) (late || disturbs (closed_in o) (reads_in t)) (kills_too_exact t)
@@ -119,9 +121,11 @@ cut_placed has makes w ds os (first ∷ rest) is all =
 
 -- lists of positions that are cut are the batches
 pub cuts_are_placed : OrderHasSystems → JoiningMakesBatches → (w : WorldState) (ds : List Declared) (os : List OutlineModel) (order : List ℕ)
-    → order ≡ order_of (systems_of ds) → AllZip (IsOutline w) ds os → (places : List (List ℕ)) → places ≡ cut_of os ds order → ArePlacedBatches w ds places
+    → order ≡ order_of (systems_of ds) → AllZip (IsOutline w) ds os → (places : List (List ℕ)) → places ≡ cut_of os ds order
+    → ArePlacedBatches w ds places
 cuts_are_placed has makes w ds os order is all places made = subst (ArePlacedBatches w ds) (sym made) (cut_placed has makes w ds os order is all)
 
-pub cut_some : (os : List OutlineModel) (ds : List Declared) (order : List ℕ) → (order ≡ [] → ⊥) → batched (clash_at os ds) [] [] order ≡ cut_of os ds order
+pub cut_some : (os : List OutlineModel) (ds : List Declared) (order : List ℕ) → (order ≡ [] → ⊥)
+    → batched (clash_at os ds) [] [] order ≡ cut_of os ds order
 cut_some os ds [] some = absurd (some refl)
 cut_some os ds (k ∷ ks) some = refl

@@ -24,8 +24,10 @@ pub use Rattle.eco_batches.specs.Written.{HasAllPairs, HasPair, HasPairs, HasSin
 pub use Rattle.eco_batches.specs.declared.declaration.Declared.{Declared}
 pub use Rattle.eco_batches.specs.declared.key.Key.{Key}
 pub use Rattle.eco_batches.specs.declared.outline.Outline.{Outline}
+pub use Rattle.eco_ids.proofs.Each.{all_append, some_exact, some_left, some_right}
 pub use Rattle.eco_ids.proofs.Facts.{id_eq_is, id_eq_itself, neither, off, or_left, or_parts, or_right, same_tests}
 pub use Rattle.eco_ids.proofs.Overlaps.{entity_eq_is, entity_eq_itself}
+pub use Rattle.eco_ids.specs.Least.{SomeOf}
 pub use Rattle.eco_ids.specs.Matching.{pattern_overlaps}
 pub use Rattle.eco_ids.specs.World.{Record, WorldState, has, record_of}
 pub use Rattle.eco_ids.specs.declared.entity.Entity.{Entity}
@@ -35,9 +37,8 @@ pub use Rattle.eco_ids.specs.declared.pattern.Part.TheVariants.{Any, Each, Is}
 pub use Rattle.eco_ids.specs.declared.pattern.Pattern.{Pattern}
 pub use Rattle.eco_ids.specs.declared.pattern.Pattern.TheVariants.{One, Two}
 pub use Rattle.eco_query.specs.Queries.{has_any}
-pub use Rattle.eco_systems.proofs.Lists.{all_append, some_exact, some_left, some_right}
 pub use Rattle.eco_systems.specs.Closing.{ListsClosed, pattern_head, pattern_with_head}
 pub use Rattle.eco_systems.specs.Joining.{batched}
 pub use Rattle.eco_systems.specs.Phases.{in_order, order_of, positions_from}
-pub use Rattle.eco_systems.specs.Writes.{BringsPattern, InClosedPatterns, IsTraitWriter, SomeOf, widened, writes_trait}
+pub use Rattle.eco_systems.specs.Writes.{BringsPattern, InClosedPatterns, IsTraitWriter, widened, writes_trait}
 pub use Rattle.indexmap.specs.IndexSet.{insert_all, insert_key}

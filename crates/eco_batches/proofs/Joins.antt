@@ -46,14 +46,16 @@ module _ (os : List OutlineModel) where
   written_at read s = list_any (λ p. pattern_overlaps p read) (closed_in (slice_get os s))
 
   -- a read is asked of all that is written
-  disturbed : (test : Pattern → Bool) (places : List ℕ) → ((read : Pattern) → test read ≡ list_any (written_at read) places) → (reads : List Pattern)
+  disturbed : (test : Pattern → Bool) (places : List ℕ) → ((read : Pattern) → test read ≡ list_any (written_at read) places)
+      → (reads : List Pattern)
       → list_any (λ s. disturbs (closed_in (slice_get os s)) reads) places ≡ list_any test reads
   disturbed test places is reads =
       (λ i. list_any (λ s. any_turned (λ p read. pattern_overlaps p read) (closed_in (slice_get os s)) reads i) places)
       ∙ any_turned (λ s read. written_at read s) places reads
       ∙ sym (λ i. list_any (λ read. is read i) reads)
 
-  parts : (some k b d : Bool) → (some ≡ false → k ≡ false) → (some ≡ false → d ≡ false) → (some && (k || (b || d))) ≡ (k || ((some && b) || d))
+  parts : (some k b d : Bool) → (some ≡ false → k ≡ false) → (some ≡ false → d ≡ false)
+      → (some && (k || (b || d))) ≡ (k || ((some && b) || d))
   parts true k b d quiet calm = refl
   parts false k b d quiet calm = λ i. sym (quiet refl) i || sym (calm refl) i
 

@@ -62,7 +62,8 @@ distinct_push : (ks : List Pattern) (x : Pattern) → IsDistinct same_pattern ks
     → IsDistinct same_pattern (ks ++ x ∷ [])
 distinct_push [] x d apart = IsDistinct-cons same_pattern x [] tt d
 distinct_push (k ∷ ks) x d apart =
-    IsDistinct-cons same_pattern k (ks ++ x ∷ []) (all_append (λ y. same_pattern k y ≡ false) ks (x ∷ []) (IsDistinct-head same_pattern k ks d) (apart.0, tt))
+    IsDistinct-cons same_pattern k (ks ++ x ∷ [])
+    (all_append (λ y. same_pattern k y ≡ false) ks (x ∷ []) (IsDistinct-head same_pattern k ks d) (apart.0, tt))
     (distinct_push ks x (IsDistinct-tail same_pattern k ks d) apart.1)
 
 distinct : (ks xs : List Pattern) → IsDistinct same_pattern ks → IsDistinct same_pattern (insert_all same_pattern ks xs)

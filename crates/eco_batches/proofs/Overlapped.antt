@@ -34,7 +34,8 @@ abbrev among : List Pattern → Pattern → Bool
 among patterns read = list_any (λ p. pattern_overlaps p read) patterns
 
 -- nothing overlaps where there are no keys
-pub nothing : (s : Written) → s.ids.keys ≡ [] → s.wide.keys ≡ [] → s.relationships.keys ≡ [] → s.targets.keys ≡ [] → s.wild.items ≡ [] → IsNothing s
+pub nothing : (s : Written) → s.ids.keys ≡ [] → s.wide.keys ≡ [] → s.relationships.keys ≡ [] → s.targets.keys ≡ [] → s.wild.items ≡ []
+    → IsNothing s
 nothing s ids wide relationships targets wild (One e) = ap (λ k. has_item id_cmp k (id.One e)) ids
 nothing s ids wide relationships targets wild (Two p q) = λ i. pairs (part_entity p) (part_entity q) i || among (wild i) (Two p q)
   where
@@ -46,7 +47,8 @@ nothing s ids wide relationships targets wild (Two p q) = λ i. pairs (part_enti
 
 module _ (s s' : Written) where
   same_pairs : ((r t : Entity) → has_item id_cmp s'.ids.keys (id.Two r t) ≡ has_item id_cmp s.ids.keys (id.Two r t)) → s'.wide.keys ≡ s.wide.keys
-      → s'.relationships.keys ≡ s.relationships.keys → s'.targets.keys ≡ s.targets.keys → (a b : Option Entity) → overlaps_pairs s' a b ≡ overlaps_pairs s a b
+      → s'.relationships.keys ≡ s.relationships.keys → s'.targets.keys ≡ s.targets.keys → (a b : Option Entity)
+      → overlaps_pairs s' a b ≡ overlaps_pairs s a b
   same_pairs ids wide relationships targets (Some r) (Some t) = λ i. ids r t i || has_item entity_cmp (wide i) r
   same_pairs ids wide relationships targets (Some r) None = ap (λ k. has_item entity_cmp k r) relationships
   same_pairs ids wide relationships targets None (Some t) = λ i. has_item entity_cmp (targets i) t || has_any (wide i)
@@ -91,7 +93,8 @@ module _ (s s' : Written) where
     pub pair_more : (read : Pattern) → overlaps s' read ≡ (overlaps s read || pattern_overlaps (Two (Is r) (Is t)) read)
     pair_more (One f) = h.ids.members (id.One f)
     pair_more (Two (Is u) (Is v)) =
-        (λ i. ((h.ids.members (id.Two u v) ∙ ap (λ e. has_item id_cmp s.ids.keys (id.Two u v) || e) (pair_eq r t u v)) i || has_item entity_cmp (h.wide i) u)
+        (λ i. ((h.ids.members (id.Two u v) ∙ ap (λ e. has_item id_cmp s.ids.keys (id.Two u v) || e)
+        (pair_eq r t u v)) i || has_item entity_cmp (h.wide i) u)
         || among (h.wild i) (Two (Is u) (Is v)))
         ∙ last_of_three (has_item id_cmp s.ids.keys (id.Two u v)) (entity_eq r u && entity_eq t v) (has_item entity_cmp s.wide.keys u)
         (among s.wild.items (Two (Is u) (Is v)))

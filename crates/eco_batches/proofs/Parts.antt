@@ -5,12 +5,14 @@ use Rattle.eco_batches.proofs.Common.{IsWithin, Outline}
 use Rattle.std.specs.Prelude.{slice_range}
 use Rattle.std.proofs.Math.Seq.{drop-append_seam}
 
-part_kept : (all more : List Pattern) (start end : ℕ) → start ≤ end → end ≤ length all → slice_range (all ++ more) start end ≡ slice_range all start end
+part_kept : (all more : List Pattern) (start end : ℕ) → start ≤ end → end ≤ length all
+    → slice_range (all ++ more) start end ≡ slice_range all start end
 part_kept all more start end below within =
     ap (take (end - start)) (drop-append-le start all more (omega arith))
     ∙ take-append-le (end - start) (drop start all) more (omega (arith, length-drop start all))
 
-kept : (all more : List Pattern) (os : List Outline) → AllByRecursion (IsWithin (length all)) os → map (outline_of (all ++ more)) os ≡ map (outline_of all) os
+kept : (all more : List Pattern) (os : List Outline) → AllByRecursion (IsWithin (length all)) os
+    → map (outline_of (all ++ more)) os ≡ map (outline_of all) os
 kept all more [] h = refl
 kept all more (o ∷ os) h = λ i.
     record { closed = part_kept all more o.start o.end h.0.start h.0.end i; writes_traits = o.writes_traits; kills = o.kills } ∷ kept all more os h.1 i

@@ -11,11 +11,12 @@ use Rattle.eco_ids.specs.declared.pattern.Pattern.{Pattern}
 use Rattle.eco_ids.specs.declared.pattern.Pattern.TheVariants.{One, Two}
 use Rattle.eco_ids.specs.contracts.pattern.PatternPartialEq.TheImpl as pattern_eq
 use Rattle.eco_ids.specs.Indices.{IndexState, Retired, Free, Living}
+use Rattle.eco_ids.specs.Least.{SomeOf}
 use Rattle.eco_ids.specs.Order.{entity_eq}
 use Rattle.eco_ids.specs.World.{WorldState, Record}
 use Rattle.eco_query.specs.Queries.{IsPatternPart}
 use Rattle.eco_systems.specs.Closing.{pattern_with_head}
-use Rattle.eco_systems.specs.Writes.{SomeOf, InClosedPatterns}
+use Rattle.eco_systems.specs.Writes.{InClosedPatterns}
 use Rattle.eco_batches.specs.declared.key.Key.{Key}
 
 abbrev pub pattern_key : Pattern → Key

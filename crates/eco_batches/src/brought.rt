@@ -1,8 +1,9 @@
 //! What patterns bring with them.
 ghost use Rattle.std.specs.Prelude.{◌≡◌, ◌++◌, ◌↔◌, flat_map, map, option_to_list, IfOk, IsFalse, IsTrue, OnOk};
 ghost use Rattle.eco_ids.specs.declared.pattern.Pattern.{Pattern as PatternData};
+ghost use Rattle.eco_ids.specs.Least.{SomeOf};
 ghost use Rattle.eco_systems.specs.Closing.{pattern_head, pattern_with_head};
-ghost use Rattle.eco_systems.specs.Writes.{BringsPattern, SomeOf};
+ghost use Rattle.eco_systems.specs.Writes.{BringsPattern};
 ghost use Rattle.eco_batches.specs.Brought as spec;
 ghost use Rattle.eco_batches.specs.Brought.{AreClosed, HasKnownTarget, brought_by, pattern_key, known_keys, key_pattern};
 ghost use Rattle.eco_batches.specs.KeyLaws.{same_keys};
@@ -30,6 +31,7 @@ impl<H: Holdings> Graph for Brought<'_, H> {
     ghost leads = { λ b p q. BringsPattern (H.world b.holdings.now) p.pattern q.pattern };
 
     fn append_next(&self, key: Key, found: &mut Vec<Key>) -> Result<(), AllocError> {
+        eco_systems::laws::heads_bring_patterns();
         target_is_known(key.pattern);
         append_brought(key.pattern, ids_of_head(self.holdings, key.pattern), found)
     }
@@ -74,6 +76,7 @@ fn ids_of_head<H: Holdings>(holdings: &H, pattern: Pattern) -> &[Id]
     ensures { (q : PatternData) → BringsPattern (H.world holdings.now) pattern q
         ↔ SomeOf (λ r. r ≡ q) (spec.brought pattern result.now) }
 {
+    eco_systems::laws::heads_bring_patterns();
     let Some(head) = head_of(pattern) else {
         return &[];
     };

@@ -129,13 +129,14 @@ impl Written {
         }
     }
 
+    // Puts in the pattern of a single.
     fn add_single(&mut self, entity: Entity) -> Result<(), AllocError>
         ensures { OnOk result (spec.HasSingle self.old entity self.new) }
     {
         note_id(&mut self.ids, Id::One(entity))
     }
 
-    // Pairs of any relationship.
+    // Puts in a pattern of pairs of any relationship. They are few, and stand in a list.
     fn add_wild(&mut self, pattern: Pattern) -> Result<(), AllocError>
         ensures { OnOk result (spec.HasWild self.old pattern self.new) }
     {
@@ -143,7 +144,7 @@ impl Written {
         Ok(())
     }
 
-    // The pair of a relationship with a target, or all its pairs.
+    // Puts in the pair of a relationship with a target, or all its pairs.
     fn add_pairs(&mut self, relationship: Entity, target: Option<Entity>) -> Result<(), AllocError>
         ensures { OnOk result (spec.HasPairs self.old relationship target self.new) }
     {

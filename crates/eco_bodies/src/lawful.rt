@@ -35,7 +35,9 @@ pub fn rows_are_recorded_one_by_one()
 /// In the rows of its own query a script passes over no entry that it sets.
 pub fn scripts_set_their_own_entries()
     ensures { OwnEntriesAreSet }
-{}
+{
+    eco_systems::laws::entries_are_read();
+}
 
 /// How many handles a script takes is settled by its actions alone, so that draws decide what a frame of scripts leads to
 /// (`eco_systems::laws::draws_decide_frames`).

@@ -1,8 +1,9 @@
 -- Systems that declare the same have the same batches.
 use Rattle.eco_frame.proofs.Common.{◌≡◌, List, [], ◌∷◌, ◌++◌, inl, inr, IsTrue, sym, subst, AllZip, list_any, WorldState, joined, AreBatches}
 use Rattle.eco_frame.proofs.Common.{AreCut, AreTogether, Conflict, IsParted, SystemModel, system_reads}
+use Rattle.eco_ids.specs.Least.{SomeOf}
 use Rattle.eco_ids.specs.Matching.{pattern_overlaps}
-use Rattle.eco_systems.specs.Writes.{IsClosedWrite, IsTraitWriter, SomeOf}
+use Rattle.eco_systems.specs.Writes.{IsClosedWrite, IsTraitWriter}
 
 -- they declare the same
 pub record Same (s t : SystemModel) : Type 0 where

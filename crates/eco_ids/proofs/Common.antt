@@ -57,7 +57,7 @@ pub use Rattle.eco_ids.specs.Indices.{Living, IndexState, Indexed, Free, Retired
 pub use Rattle.eco_ids.specs.Indices.{change_kept, is_free_in, with_record, admitted, lowest_free, raised, with_death}
 pub use Rattle.eco_ids.specs.Lawful.{IsLawful, IsOrderly, is_proper_arity, is_proper_state, KeepsAcyclic, KeepsExclusive, KeepsEdition, KeepsMirrors}
 pub use Rattle.eco_ids.specs.Lawful.{IsMirrored}
-pub use Rattle.eco_ids.specs.Least.{root, next, Least}
+pub use Rattle.eco_ids.specs.Least.{root, next, Least, SomeOf}
 pub use Rattle.eco_ids.specs.Losses.{nobody, without, keeping}
 pub use Rattle.eco_ids.specs.Matching.{pattern_matches, IsLeastMatch, ShareAnEntity, part_overlaps, pattern_overlaps}
 pub use Rattle.eco_ids.specs.Mirrors.{mirrored_pair, mirror_of, at_mirror, goes_too, is_with, is_clashing, has_clash}

@@ -1,7 +1,7 @@
 -- A query answers the same on ids that it sees alike.
 use Rattle.eco_systems.proofs.Common.{◌≡◌, Bool, true, false, cond, not, ◌&&◌, ◌||◌, List, [], ◌∷◌, map, filter, refl, sym, ap, ◌∙◌}
 use Rattle.eco_systems.proofs.Common.{is_lt, true≢false, IsTrue, inl, inr, Option, Some, None, flat_map, option_to_list, list_any, AllByRecursion}
-use Rattle.eco_systems.proofs.Common.{list_any-append, Id, Pattern, pattern_matches, id_cmp, has_item, is_ascending, both, or_left, or_parts, or_right}
+use Rattle.eco_systems.proofs.Common.{list_any-append, Id, Pattern, pattern_matches, id_cmp, has_item, is_ascending, both, first, or_left, or_parts, or_right}
 use Rattle.eco_systems.proofs.Common.{entity_eq_itself, QuerySlot, HasPositive, is_positive, exactly, patterns_of, reads, matches_one}
 use Rattle.std.specs.Prelude.{find}
 use Rattle.eco_ids.specs.Answer.{same_filling, is_least_match, entries_of, choices}
@@ -53,10 +53,12 @@ module _ (seen : Id → Bool) (xs ys : List Id) (a : Alike seen xs ys) where
   first_of_group (i ∷ is) h =
       λ k. cond (a.same i (h i (or_left _ _ (exact_match i))) k) (Some i) (first_of_group is (λ j m. h j (or_right (pattern_matches (exactly i) j) _ m)) k)
 
-  kept_alike : (p : Pattern) → ((i : Id) → IsTrue (matches_one (p ∷ []) i) → IsTrue (seen i)) → filter (pattern_matches p) xs ≡ filter (pattern_matches p) ys
+  kept_alike : (p : Pattern) → ((i : Id) → IsTrue (matches_one (p ∷ []) i) → IsTrue (seen i))
+      → filter (pattern_matches p) xs ≡ filter (pattern_matches p) ys
   kept_alike p h = same_filtered (pattern_matches p) xs ys a.up a.vp (λ i m. a.same i (h i (or_left _ _ m)))
 
-  pub entries_alike : (slot : QueryTerm) → ((i : Id) → IsTrue (matches_one (patterns_of slot) i) → IsTrue (seen i)) → entries_of xs slot ≡ entries_of ys slot
+  pub entries_alike : (slot : QueryTerm) → ((i : Id) → IsTrue (matches_one (patterns_of slot) i) → IsTrue (seen i))
+      → entries_of xs slot ≡ entries_of ys slot
   entries_alike (And p) h =
       ap (map Some) (plain_entries p xs ∙ (λ k. filter (least_among p (kept_alike p h k)) (kept_alike p h k)) ∙ sym (plain_entries p ys))
   entries_alike (Not p) h =
@@ -91,11 +93,20 @@ no_choices (s ∷ ss) h =
 
 -- ---- each entry of a result is an id that its slot reads
 
-abbrev pub IsRead : (Id → Bool) → Option Id → Type 0
-IsRead seen None = Unit {0}
-IsRead seen (Some i) = IsTrue (seen i)
+-- an entry of the slot: a `!` slot has none
+abbrev pub IsRead : QueryTerm → Option Id → Type 0
+IsRead term None = Unit {0}
+IsRead (Not p) (Some i) = ⊥
+IsRead term (Some i) = IsTrue (matches_one (patterns_of term) i)
 
-pub found_item : (t : Id → Bool) (is : List Id) → AllByRecursion (λ i. IsTrue (matches_one (map exactly is) i)) (option_to_list (find t is))
+-- slot by slot
+abbrev pub AreRead : List QuerySlot → List (Option Id) → Type 0
+AreRead [] [] = Unit {0}
+AreRead [] (entry ∷ entries) = ⊥
+AreRead (s ∷ ss) [] = ⊥
+AreRead (s ∷ ss) (entry ∷ entries) = IsRead s.term entry × AreRead ss entries
+
+found_item : (t : Id → Bool) (is : List Id) → AllByRecursion (λ i. IsTrue (matches_one (map exactly is) i)) (option_to_list (find t is))
 found_item t [] = tt
 found_item t (i ∷ is) =
     elim (t i) as (λ b. AllByRecursion (λ j. IsTrue (pattern_matches (exactly i) j || matches_one (map exactly is) j))
@@ -109,28 +120,30 @@ found_item t (i ∷ is) =
     later None h = tt
     later (Some j) h = (or_right (pattern_matches (exactly i) j) _ h.0, tt)
 
-module _ (seen : Id → Bool) (ids : List Id) where
-  entries_read : (slot : QueryTerm) → ((i : Id) → IsTrue (matches_one (patterns_of slot) i) → IsTrue (seen i)) →
-      AllByRecursion (IsRead seen) (entries_of ids slot)
-  entries_read (And p) h =
-      all_mapped (λ i. IsTrue (pattern_matches p i && least_among p ids i)) (IsRead seen) Some
-      (λ i m. h i (or_left _ _ (first_part (pattern_matches p i) _ m))) (filter (is_least_match p ids) ids) (all_pass (is_least_match p ids) ids)
-    where
-      first_part : (a b : Bool) → IsTrue (a && b) → IsTrue a
-      first_part true b h = refl
-      first_part false b h = h
-  entries_read (Not p) h = elim (list_any (pattern_matches p) ids) as (λ b. AllByRecursion (IsRead seen) (cond b [] (None ∷ [])))
+module _ (ids : List Id) where
+  entries_read : (term : QueryTerm) → AllByRecursion (IsRead term) (entries_of ids term)
+  entries_read (And p) =
+      all_mapped (λ i. IsTrue (is_least_match p ids i)) (IsRead (And p)) Some (λ i m. or_left _ _ (first (pattern_matches p i) _ m))
+      (filter (is_least_match p ids) ids) (all_pass (is_least_match p ids) ids)
+  entries_read (Not p) = elim (list_any (pattern_matches p) ids) as (λ b. AllByRecursion (IsRead (Not p)) (cond b [] (None ∷ [])))
       [ true ↦ tt | false ↦ (tt, tt) ]
-  entries_read (Optional i) h = elim (has_item id_cmp ids i) as (λ b. AllByRecursion (IsRead seen) (cond b (Some i) None ∷ []))
-      [ true ↦ (h i (or_left _ _ (exact_match i)), tt) | false ↦ (tt, tt) ]
-  entries_read (Or is) h =
-      all_mapped (λ i. IsTrue (matches_one (map exactly is) i)) (IsRead seen) Some (λ i m. h i m) (option_to_list (find (has_item id_cmp ids) is))
+  entries_read (Optional i) = elim (has_item id_cmp ids i) as (λ b. AllByRecursion (IsRead (Optional i)) (cond b (Some i) None ∷ []))
+      [ true ↦ (or_left _ _ (exact_match i), tt) | false ↦ (tt, tt) ]
+  entries_read (Or is) =
+      all_mapped (λ i. IsTrue (matches_one (map exactly is) i)) (IsRead (Or is)) Some (λ i m. m) (option_to_list (find (has_item id_cmp ids) is))
       (found_item (has_item id_cmp ids) is)
 
-  pub choices_read : (slots : List QuerySlot) → Sees seen slots → AllByRecursion (AllByRecursion (IsRead seen)) (choices ids (asked slots))
-  choices_read [] h = (tt, tt)
-  choices_read (s ∷ ss) h =
-      all_gathered (IsRead seen) (AllByRecursion (IsRead seen)) (λ e. map (λ rest. e ∷ rest) (choices ids (asked ss)))
-      (λ e read. all_mapped (AllByRecursion (IsRead seen)) (AllByRecursion (IsRead seen)) (λ rest. e ∷ rest) (λ rest r. (read, r)) (choices ids (asked ss))
-      (choices_read ss h.1))
-      (entries_of ids s.term) (entries_read s.term h.0)
+  pub choices_read : (slots : List QuerySlot) → AllByRecursion (AreRead slots) (choices ids (asked slots))
+  choices_read [] = (tt, tt)
+  choices_read (s ∷ ss) =
+      all_gathered (IsRead s.term) (AreRead (s ∷ ss)) (λ e. map (λ rest. e ∷ rest) (choices ids (asked ss)))
+      (λ e read. all_mapped (AreRead ss) (AreRead (s ∷ ss)) (λ rest. e ∷ rest) (λ rest r. (read, r)) (choices ids (asked ss)) (choices_read ss))
+      (entries_of ids s.term) (entries_read s.term)
+
+-- an entry is of no `!` slot, and one of the slot's patterns reads it
+pub read_parts : (term : QueryTerm) (i : Id) → IsRead term (Some i)
+    → IsTrue (matches_one (patterns_of term) i) × ((p : Pattern) → term ≡ Not p → ⊥)
+read_parts (And q) i h = (h, λ p e. cc)
+read_parts (Not q) i h = absurd h
+read_parts (Optional j) i h = (h, λ p e. cc)
+read_parts (Or is) i h = (h, λ p e. cc)

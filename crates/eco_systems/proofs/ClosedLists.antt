@@ -4,7 +4,7 @@ use Rattle.eco_systems.proofs.Common.{◌∙◌, subst, true≢false, IsTrue, So
 use Rattle.eco_systems.proofs.Common.{Each, Any, Pattern, One, Two, root, next, entity_cmp, entity_eq, has_item, Reaches, WorldState, has, or_left, or_parts}
 use Rattle.eco_systems.proofs.Common.{or_right, entity_eq_is, entity_eq_itself, SomeOf, BringsPattern, InClosedPatterns, widened}
 use Rattle.eco_systems.specs.Closing.{pattern_head, pattern_with_head, ClosedPasses, ListsClosed, Among}
-use Rattle.eco_systems.proofs.Lists.{some_left, some_right}
+use Rattle.eco_systems.proofs.Common.{some_left, some_right}
 use Rattle.eco_ids.specs.declared.id.Id.TheVariants as id
 
 -- ---- the closed patterns of some are those of each
@@ -27,7 +27,8 @@ module _ (w : WorldState) where
           more (inr c) = inr c
   from_more xs ys (next c b) = on (from_more xs ys c) b
     where
-      on : {p q : Pattern} → InClosedPatterns w xs p ⊎ InClosedPatterns w ys p → BringsPattern w p q → InClosedPatterns w xs q ⊎ InClosedPatterns w ys q
+      on : {p q : Pattern} → InClosedPatterns w xs p ⊎ InClosedPatterns w ys p → BringsPattern w p q
+          → InClosedPatterns w xs q ⊎ InClosedPatterns w ys q
       on (inl c) b = inl (next c b)
       on (inr c) b = inr (next c b)
 
@@ -68,7 +69,7 @@ module _ (w : WorldState) where
       here (inl c) = inl ((h test).1 c)
       here (inr c) = inr c
 
-  pub nothing_closed : {p : Pattern} → InClosedPatterns w [] p → ⊥
+  nothing_closed : {p : Pattern} → InClosedPatterns w [] p → ⊥
   nothing_closed (root h) = h
   nothing_closed (next c b) = nothing_closed c
 
@@ -77,12 +78,12 @@ module _ (w : WorldState) where
 
   -- ---- the closed patterns of one are those with the heads that With leads to
 
-  pub own_head : (p : Pattern) (h : Entity) → pattern_head p ≡ Some h → pattern_with_head p h ≡ p
+  own_head : (p : Pattern) (h : Entity) → pattern_head p ≡ Some h → pattern_with_head p h ≡ p
   own_head (One e) h at = ap One (sym (same_Some e h at))
   own_head (Two (Is r) q) h at = ap (λ x. Two (Is x) q) (sym (same_Some r h at))
   own_head _ h at = absurd (none-some h at)
 
-  pub one_brings : (p : Pattern) (a b : Entity) → IsTrue (has w a (id.Two WITH b)) → BringsPattern w (pattern_with_head p a) (pattern_with_head p b)
+  one_brings : (p : Pattern) (a b : Entity) → IsTrue (has w a (id.Two WITH b)) → BringsPattern w (pattern_with_head p a) (pattern_with_head p b)
   one_brings (One c) a b h = h
   one_brings (Two r t) a b h = (h, refl)
 
@@ -91,13 +92,14 @@ module _ (w : WorldState) where
   reach_to_closed p h is (root e) = root (inl (sym (ap (pattern_with_head p) e ∙ own_head p h is)))
   reach_to_closed p h is (next {a = a} {b = b} member edge) = next (reach_to_closed p h is member) (one_brings p a b edge)
 
-  pub brought_head : (p : Pattern) (a : Entity) (q : Pattern) → BringsPattern w (pattern_with_head p a) q → (x : Entity) × IsTrue (has w a (id.Two WITH x)) ×
+  brought_head : (p : Pattern) (a : Entity) (q : Pattern) → BringsPattern w (pattern_with_head p a) q → (x : Entity) × IsTrue (has w a (id.Two WITH x)) ×
       (q ≡ pattern_with_head p x)
   brought_head (One c) a (One x) h = (x, h, refl)
   brought_head (Two r t) a (Two (Is x) u) h = (x, h.0, ap (Two (Is x)) h.1)
   brought_head _ a _ h = absurd h
 
-  closed_to_reach : (p : Pattern) (h : Entity) → pattern_head p ≡ Some h → {q : Pattern} → InClosedPatterns w (p ∷ []) q → (x : Entity) × Reaches w WITH h x ×
+  closed_to_reach : (p : Pattern) (h : Entity) → pattern_head p ≡ Some h → {q : Pattern} → InClosedPatterns w (p ∷ []) q
+      → (x : Entity) × Reaches w WITH h x ×
       (q ≡ pattern_with_head p x)
   closed_to_reach p h is (root (inl e)) = (h, root refl, sym e ∙ sym (own_head p h is))
   closed_to_reach p h is (root (inr n)) = absurd n
@@ -106,7 +108,8 @@ module _ (w : WorldState) where
       let n = brought_head p m.0 b (subst (λ r. BringsPattern w r b) m.2 brings) in
       (n.0, next m.1 n.1, n.2)
 
-  listed_head : (p : Pattern) (heads : List Entity) (test : Pattern → Bool) → IsTrue (list_any test (map (λ x. widened w (pattern_with_head p x)) heads)) →
+  listed_head : (p : Pattern) (heads : List Entity) (test : Pattern → Bool) →
+      IsTrue (list_any test (map (λ x. widened w (pattern_with_head p x)) heads)) →
       (x : Entity) × IsTrue (has_item entity_cmp heads x) × IsTrue (test (widened w (pattern_with_head p x)))
   listed_head p [] test h = absurd (true≢false (sym h))
   listed_head p (y ∷ ys) test h =
@@ -128,7 +131,8 @@ module _ (w : WorldState) where
 
   -- a pattern with a head
   pub among_reached : (p : Pattern) (h : Entity) (heads : List Entity) (old : List Pattern) → pattern_head p ≡ Some h →
-      ((x : Entity) → IsTrue (has_item entity_cmp heads x) ↔ Reaches w WITH h x) → Among w p old (old ++ map (λ x. widened w (pattern_with_head p x)) heads)
+      ((x : Entity) → IsTrue (has_item entity_cmp heads x) ↔ Reaches w WITH h x) →
+      Among w p old (old ++ map (λ x. widened w (pattern_with_head p x)) heads)
   among_reached p h heads old at exact test = (
     λ t. there (or_parts (list_any test old) _ (sym (list_any-append test old (map (λ x. widened w (pattern_with_head p x)) heads)) ∙ t)),
     λ c. list_any-append test old (map (λ x. widened w (pattern_with_head p x)) heads) ∙ here c,
@@ -148,14 +152,27 @@ module _ (w : WorldState) where
           let x = closed_to_reach p h at (c.1).1 in
           or_right (list_any test old) _ (head_listed p heads test x.0 ((exact x.0).1 x.1) (subst (λ q. IsTrue (test q)) ((c.1).2 ∙ ap (widened w) x.2) c.2))
 
+  pub heads_bring : (p q : Pattern) → BringsPattern w p q
+      ↔ (h : Entity) × (x : Entity) × (pattern_head p ≡ Some h) × IsTrue (has w h (id.Two WITH x)) × (q ≡ pattern_with_head p x)
+  heads_bring p q = (
+    there p q,
+    λ (h, x, at, pair, is). subst (BringsPattern w p) (sym is) (subst (λ r. BringsPattern w r (pattern_with_head p x)) (own_head p h at)
+        (one_brings p h x pair)),
+  )
+    where
+      there : (p q : Pattern) → BringsPattern w p q
+          → (h : Entity) × (x : Entity) × (pattern_head p ≡ Some h) × IsTrue (has w h (id.Two WITH x)) × (q ≡ pattern_with_head p x)
+      there (One c) (One x) b = (c, x, refl, b, refl)
+      there (Two (Is r) t) (Two (Is x) u) b = (r, x, refl, b.0, ap (Two (Is x)) b.1)
+      there (Two Each t) (One x) b = absurd b
+      there (Two Each t) (Two p u) b = absurd b
+      there (Two Any t) (One x) b = absurd b
+      there (Two Any t) (Two p u) b = absurd b
+      there _ _ b = absurd b
+
   -- one without: nothing is brought
-  pub wild_brings : (p q : Pattern) → pattern_head p ≡ None → BringsPattern w p q → ⊥
-  wild_brings (One e) q at h = none-some e (sym at)
-  wild_brings (Two (Is r) t) q at h = none-some r (sym at)
-  wild_brings (Two Each t) (One x) at h = h
-  wild_brings (Two Each t) (Two p u) at h = h
-  wild_brings (Two Any t) (One x) at h = h
-  wild_brings (Two Any t) (Two p u) at h = h
+  wild_brings : (p q : Pattern) → pattern_head p ≡ None → BringsPattern w p q → ⊥
+  wild_brings p q at b = let (h, x, is, pair, more) = (heads_bring p q).0 b in none-some h (sym at ∙ is)
 
   wild_widened : (p : Pattern) → pattern_head p ≡ None → widened w p ≡ p
   wild_widened (One e) at = absurd (none-some e (sym at))

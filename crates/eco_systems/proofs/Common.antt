@@ -13,6 +13,7 @@ pub use Rattle.std.specs.List.{AllByRecursion, list_all, list_any}
 pub use Rattle.std.specs.Option.{option_and_then, option_or}
 pub use Rattle.std.specs.Prelude.{flat_map, option_to_list}
 pub use Rattle.eco_ids.proofs.Ascending.{ascending_filter, both, first, second}
+pub use Rattle.eco_ids.proofs.Each.{all_append, some_exact, some_left, some_right}
 pub use Rattle.eco_ids.proofs.Facts.{any_is, id_eq_is, id_eq_itself, off, or_left, or_parts, or_right, same_or_apart}
 pub use Rattle.eco_ids.proofs.IdOrder.{entity_cmp_total, id_cmp_total, same_entity, same_id}
 pub use Rattle.eco_ids.proofs.Keeps.{has_in, same_arity, some_of}
@@ -26,7 +27,7 @@ pub use Rattle.eco_ids.specs.Data.{arity, arity_of, value_of}
 pub use Rattle.eco_ids.specs.Edition.{has_symmetric, late_traits}
 pub use Rattle.eco_ids.specs.Indices.{Free, IndexState, Indexed, Living, Retired, admitted, is_free_at, is_free_in, living_from, record_in}
 pub use Rattle.eco_ids.specs.Lawful.{IsLawful}
-pub use Rattle.eco_ids.specs.Least.{next, root}
+pub use Rattle.eco_ids.specs.Least.{SomeOf, next, root}
 pub use Rattle.eco_ids.specs.Matching.{part_matches, pattern_matches, pattern_overlaps}
 pub use Rattle.eco_ids.specs.Order.{entity_cmp, entity_eq, has_item, id_cmp, id_eq, is_ascending}
 pub use Rattle.eco_ids.specs.Outcome.{Answers, Meets, Refuses, is_out_of_memory}
@@ -57,4 +58,4 @@ pub use Rattle.eco_systems.specs.Phases.{in_order, order_of, phases, positions_f
 pub use Rattle.eco_systems.specs.Recording.{BatchRecords, PiecesRecord, Records, RowsRecord, pieces_of}
 pub use Rattle.eco_systems.specs.Rows.{ValuedRow, entry_value, entry_values, shows_values, valued, valued_rows}
 pub use Rattle.eco_systems.specs.Systems.{IsDeclared, IsLawfulSystem, SystemModel, matches_one, system_reads}
-pub use Rattle.eco_systems.specs.Writes.{BringsPattern, InClosedPatterns, IsClosedWrite, IsTraitWriter, SomeOf, is_builtin_trait, widened, writes_trait}
+pub use Rattle.eco_systems.specs.Writes.{BringsPattern, InClosedPatterns, IsClosedWrite, IsTraitWriter, is_builtin_trait, widened, writes_trait}

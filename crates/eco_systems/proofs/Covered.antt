@@ -87,12 +87,17 @@ module _ (start : WorldState) (writes : List Pattern) where
     brought w within (Two Any u) (id.Two r t) k member m brings = absurd (not_any u member)
     brought w within (Two (Is own) u) (id.Two r t) (id.Two x v) member m brings = (
       Two (Is x) u,
-      next member (subst (λ y. IsTrue (has start y (id.Two WITH x))) (sym (entity_eq_is own r (first _ _ m))) (within.1 r (id.Two WITH x) refl brings.0), refl),
+      next member (
+        subst (λ y. IsTrue (has start y (id.Two WITH x))) (sym (entity_eq_is own r (first _ _ m)))
+            (within.1 r (id.Two WITH x) refl brings.0),
+        refl,
+      ),
       both _ _ (entity_eq_itself x) (subst (λ y. IsTrue (part_matches u y)) (sym brings.1) (second (entity_eq own r) _ m)),
     )
     brought w within _ _ _ member m brings = absurd brings
 
-    closure_covered : (w : WorldState) → TraitsWithin start w → (i : Id) → IsTrue (matches_one writes i) → (j : Id) → InClosure w i j → Covered start writes j
+    closure_covered : (w : WorldState) → TraitsWithin start w → (i : Id) → IsTrue (matches_one writes i) → (j : Id) → InClosure w i j
+        → Covered start writes j
     closure_covered w within i here = closure_least w i (Covered start writes) (begins i here) (λ j k c b. brought w within c.0 j k c.1 c.2 b)
 
     -- no trait comes by such an add
@@ -147,18 +152,21 @@ module _ (start : WorldState) (writes : List Pattern) where
           )
 
   -- a pair of the same symmetric relationship
-  twin_written : NoTraits start writes → (w : WorldState) → TraitsWithin start w → (i : Id) → IsTrue (matches_one writes i) → (j : Id) → IsTwin w i j
+  twin_written : NoTraits start writes → (w : WorldState) → TraitsWithin start w → (i : Id) → IsTrue (matches_one writes i) → (j : Id)
+      → IsTwin w i j
       → Written j
   twin_written plain w within (id.Two r t) here (id.Two q u) h =
       subst (λ y. Written (id.Two y u)) (sym h.1)
       (evicted_written plain r u t (or_left _ _ (symmetric_within start w r within h.0)) (begins (id.Two r t) here))
   twin_written plain w within _ here _ h = absurd h
 
-  goes_written : NoTraits start writes → (w : WorldState) → TraitsWithin start w → (i : Id) → IsTrue (matches_one writes i) → (j : Id) → Goes w i j → Written j
+  goes_written : NoTraits start writes → (w : WorldState) → TraitsWithin start w → (i : Id) → IsTrue (matches_one writes i) → (j : Id)
+      → Goes w i j → Written j
   goes_written plain w within i here j (inl h) = subst Written (sym h) (written_closed i (begins i here))
   goes_written plain w within i here j (inr h) = twin_written plain w within i here j h
 
-  touches_written : NoTraits start writes → (w : WorldState) → TraitsWithin start w → (i : Id) → IsTrue (matches_one writes i) → (j : Id) → Touches w i j →
+  touches_written : NoTraits start writes → (w : WorldState) → TraitsWithin start w → (i : Id) → IsTrue (matches_one writes i) → (j : Id) →
+      Touches w i j →
       Written j
   touches_written plain w within i here j (inl h) = written_closed j (closure_covered plain w within i here j h)
   touches_written plain w within i here (id.One e) (inr (inl h)) = absurd h

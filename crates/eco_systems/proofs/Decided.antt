@@ -61,7 +61,8 @@ done true P Q ample h = absurd (true≢false (sym ample))
 done false P Q ample h = h
 
 step_once : (c : Command) (w : WorldState) (r q : Result (Unit {0}) Refusal) (new other : WorldState) → IsTrue (not (is_out_of_memory r))
-    → IsTrue (not (is_out_of_memory q)) → Meets (Applies c w) (may_want c w) w r new → Meets (Applies c w) (may_want c w) w q other → (r ≡ q) × (new ≡ other)
+    → IsTrue (not (is_out_of_memory q)) → Meets (Applies c w) (may_want c w) w r new → Meets (Applies c w) (may_want c w) w q other
+    → (r ≡ q) × (new ≡ other)
 step_once c w r q new other a b g h = (applies_settled c w).one r q new other (done (is_out_of_memory r) _ _ a g) (done (is_out_of_memory q) _ _ b h)
 
 runs_decided : (cs : List Command) (w : WorldState) (rs qs : FrameOutcomes) (new other : WorldState) → IsTrue (was_ample rs) → IsTrue (was_ample qs)
@@ -98,7 +99,8 @@ AllFit Fits (d ∷ ds) (e ∷ es) = Fits d e × AllFit Fits ds es
 module _ (Way : WorldState → List SystemModel → BatchDraws → FrameOutcomes → WorldState → Type 0) (Fits : BatchDraws → BatchDraws → Type 0)
     (once : (w : WorldState) (batch : List SystemModel) (d e : BatchDraws) (rs qs : FrameOutcomes) (new other : WorldState) → AllByRecursion TakesOne batch
     → Fits d e
-    → IsTrue (was_ample rs) → IsTrue (was_ample qs) → Way w batch d rs new → Way w batch e qs other → (d ≡ e) × (rs ≡ qs) × (new ≡ other)) where
+    → IsTrue (was_ample rs) → IsTrue (was_ample qs) → Way w batch d rs new → Way w batch e qs other
+    → (d ≡ e) × (rs ≡ qs) × (new ≡ other)) where
   turns_once : (batches : List (List SystemModel)) (w : WorldState) (ds es : List BatchDraws) (rs qs : FrameOutcomes) (new other : WorldState)
       → AllByRecursion (AllByRecursion TakesOne) batches → AllFit Fits ds es → IsTrue (was_ample rs) → IsTrue (was_ample qs)
       → InTurn Way w batches ds rs new → InTurn Way w batches es qs other → (ds ≡ es) × (rs ≡ qs) × (new ≡ other)
@@ -140,8 +142,10 @@ draws_decide w systems draws outcomes others new other one a b g h =
     all_same (d ∷ ds) = (refl, all_same ds)
 
 -- the draws ascend, so they go on to one list
-ascending_once : (w : WorldState) (batch : List SystemModel) (d e : BatchDraws) (rs qs : FrameOutcomes) (new other : WorldState) → AllByRecursion TakesOne batch
-    → IsTrue (was_ample rs) → IsTrue (was_ample qs) → AscendingRuns w batch d rs new → AscendingRuns w batch e qs other → (d ≡ e) × (rs ≡ qs) × (new ≡ other)
+ascending_once : (w : WorldState) (batch : List SystemModel) (d e : BatchDraws) (rs qs : FrameOutcomes) (new other : WorldState)
+    → AllByRecursion TakesOne batch
+    → IsTrue (was_ample rs) → IsTrue (was_ample qs) → AscendingRuns w batch d rs new → AscendingRuns w batch e qs other
+    → (d ≡ e) × (rs ≡ qs) × (new ≡ other)
 ascending_once w batch d e rs qs new other one a b g h =
     let known : ℕ = length w.indices in
     let m : ℕ = length (all_drawn d) in

@@ -14,11 +14,13 @@ module _ {S : Type 0} {P : Result (Unit {0}) Refusal → S → Type 0} where
   from_refusal why old p = record { at = λ r new h. subst (λ q. P q new) (sym h.0) (subst (P (Err why)) (sym h.1) p) }
 
   pub unless : (old : S) (o : Option Refusal) (Step : Result (Unit {0}) Refusal → S → Type 0)
-      → ((why : Refusal) → o ≡ Some why → P (Err why) old) → Follows P Step → Follows P (λ r new. MatchOption o (Step r new) (λ why. Refuses why old r new))
+      → ((why : Refusal) → o ≡ Some why → P (Err why) old) → Follows P Step
+      → Follows P (λ r new. MatchOption o (Step r new) (λ why. Refuses why old r new))
   unless old None Step p q = q
   unless old (Some why) Step p q = from_refusal why old (p why refl)
 
-  pub either : (b : Bool) (X Y : Result (Unit {0}) Refusal → S → Type 0) → Follows P X → Follows P Y → Follows P (λ r new. MatchBool b (X r new) (Y r new))
+  pub either : (b : Bool) (X Y : Result (Unit {0}) Refusal → S → Type 0) → Follows P X → Follows P Y
+      → Follows P (λ r new. MatchBool b (X r new) (Y r new))
   either true X Y p q = p
   either false X Y p q = q
 

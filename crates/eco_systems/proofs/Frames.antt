@@ -11,7 +11,7 @@ use Rattle.eco_ids.proofs.Admits.{admits_lawful, more_free}
 use Rattle.eco_systems.specs.declared.phase.Phase.{Phase}
 use Rattle.eco_systems.proofs.Answers.{Sees, sees_reads}
 use Rattle.eco_systems.proofs.Covered.{TraitsWithin}
-use Rattle.eco_systems.proofs.Lists.{all_append, some_left, some_right}
+use Rattle.eco_systems.proofs.Common.{all_append, some_left, some_right}
 use Rattle.eco_systems.proofs.Rows.{rows_same}
 use Rattle.eco_systems.proofs.Runs.{runs_split, records_declared, runs_traits, runs_same}
 use Rattle.eco_systems.proofs.Same.{LooksSame, looks_then}
@@ -70,7 +70,8 @@ module _ (start : WorldState) (before : List SystemModel) where
           tame = λ k. none (inl k);
           plain = λ w. none
               (inr (inr (inl
-              (some_left (IsTraitWriter start) (before ++ inside) (t ∷ []) (some_right (IsTraitWriter start) before inside (among (IsTraitWriter start) w))))));
+              (some_left (IsTraitWriter start) (before ++ inside) (t ∷ [])
+              (some_right (IsTraitWriter start) before inside (among (IsTraitWriter start) w))))));
           apart = λ d. none (inr (inr (inr d)));
         },
         apart_from_rest (inside ++ t ∷ []) rest s (λ P p. some_left P inside (t ∷ []) (among P p)) h.1,
@@ -94,7 +95,8 @@ sees_own s = sees_reads (matches_one (system_reads s)) s.slots
     (λ i m. list_any-append (λ p. pattern_matches p i) (reads s.slots) s.body_reads ∙ or_left _ _ m)
 
 -- what is recorded on a world is recorded on one that looks the same
-records_same : (w new : WorldState) (s : SystemModel) (draws : List (List Entity)) (commands : List Command) → IsLawful w → IsLawful new → IsLawfulSystem s
+records_same : (w new : WorldState) (s : SystemModel) (draws : List (List Entity)) (commands : List Command) → IsLawful w → IsLawful new
+    → IsLawfulSystem s
     → LooksSame (matches_one (system_reads s)) w new → Records w s draws commands → Records new s draws commands
 records_same w new s draws commands l m law p h =
     subst (λ rows. PiecesRecord s (pieces_of rows) draws commands)
@@ -126,7 +128,8 @@ module _ (start : WorldState) where
 
   -- and the batch goes on
   later : (base cur mid : WorldState) (s : SystemModel) (ss : List SystemModel) (commands : List Command) (now : FrameOutcomes)
-      → AllByRecursion (IsDeclared s.writes s.kills) commands → Runs cur commands now mid → Ready start cur (s ∷ ss) → AllByRecursion (Apart start s) ss
+      → AllByRecursion (IsDeclared s.writes s.kills) commands → Runs cur commands now mid → Ready start cur (s ∷ ss)
+      → AllByRecursion (Apart start s) ss
       → AllLook base cur ss → Ready start mid ss × AllLook base mid ss
   later base cur mid s [] commands now declared run within a p = (tt, tt)
   later base cur mid s (t ∷ ts) commands now declared run within a p = (
@@ -191,7 +194,8 @@ module _ (start : WorldState) where
   one_batch before batch w draws outcomes new l laws together within h =
       let n : ℕ = length (all_drawn draws) in
       let m : IsLawful (with_admitted n w) = lawful_admitted w n (h.0).1 l in
-      let handed : (SomeOf (IsTraitWriter start) before → ⊥) → TraitsWithin start (with_admitted n w) = λ none. traits_admitted w n start (within none) in
+      let handed : (SomeOf (IsTraitWriter start) before → ⊥)
+      → TraitsWithin start (with_admitted n w) = λ none. traits_admitted w n start (within none) in
       record {
         solo = (
           h.0,

@@ -84,7 +84,8 @@ module _ (w : WorldState) where
   abbrev Runs : List SystemModel → Type 0
   Runs batch = (draws : BatchDraws) × (outcomes : FrameOutcomes) × (new : WorldState) × BatchRuns w batch draws outcomes new × IsLawful new
 
-  batch_ends : (batch : List SystemModel) → IsLawful w → AllByRecursion TakesSome batch → Runs batch ⊎ ((draws : BatchDraws) × PassesLimit w batch draws)
+  batch_ends : (batch : List SystemModel) → IsLawful w → AllByRecursion TakesSome batch
+      → Runs batch ⊎ ((draws : BatchDraws) × PassesLimit w batch draws)
   batch_ends batch l some = by (may_admit (entities w) (length (all_drawn draws))) refl
     where
       taken : BatchTakes batch

@@ -52,8 +52,11 @@ up a (suc n) = both _ _ (all_below a (a + 1) n (omega arith)) (up (a + 1) n)
 apart : (xs ys : List Entity) → IsTrue (is_ascending entity_cmp (xs ++ ys)) → IsTrue (is_ascending entity_cmp xs) × IsTrue (is_ascending entity_cmp ys)
 apart [] ys h = (refl, h)
 apart (x ∷ xs) ys h =
-    let rest = apart xs ys (second (list_all (λ y. is_lt (entity_cmp x y)) (xs ++ ys)) _ h) in
-    (both _ _ (first (list_all (λ y. is_lt (entity_cmp x y)) xs) _ (sym (list_all-append (λ y. is_lt (entity_cmp x y)) xs ys) ∙ first _ _ h)) rest.0, rest.1)
+    let rest = apart xs ys (second (list_all (λ y. is_lt (entity_cmp x y)) (xs ++ ys)) _ h) in (
+      both _ _ (first (list_all (λ y. is_lt (entity_cmp x y)) xs) _ (sym (list_all-append (λ y. is_lt (entity_cmp x y)) xs ys)
+          ∙ first _ _ h)) rest.0,
+      rest.1,
+    )
 
 each_up : (xss : List (List Entity)) → IsTrue (is_ascending entity_cmp (joined xss)) → AllByRecursion (λ d. IsTrue (is_ascending entity_cmp d)) xss
 each_up [] h = tt

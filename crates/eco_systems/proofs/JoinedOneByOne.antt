@@ -2,7 +2,7 @@
 use Rattle.eco_systems.proofs.Common.{◌≡◌, Bool, true, false, cond, ◌↔◌, List, [], ◌∷◌, ◌++◌, map, refl, sym, ap, ◌∙◌, subst}
 use Rattle.eco_systems.proofs.Common.{true≢false, IsTrue, IsFalse, append_assoc, list_any, append-nil, map-append, WorldState, Conflict, AreTogether, AreCut}
 use Rattle.eco_systems.proofs.Common.{AreBatches, joined, batched, JoiningMakesBatches, SystemModel, SomeOf}
-use Rattle.eco_systems.proofs.Lists.{some_exact}
+use Rattle.eco_systems.proofs.Common.{some_exact}
 
 module _ (w : WorldState) (before : List SystemModel) (t : SystemModel) where
   -- nobody of these conflicts with t, which comes after them
@@ -37,7 +37,8 @@ module _ {A : Type 0} (w : WorldState) (at : A → SystemModel) (clash : List A 
 
   -- t opens the next batch
   parted : (done batch : List A) (t : A) (rest : List A) (later : List (List A)) → AreTogether w (map at done) [] (map at batch)
-      → IsTrue (list_any (λ s. clash (done ++ batch) s t) batch) → Goes (done ++ batch) (t ∷ []) rest later → Goes done batch (t ∷ rest) (batch ∷ later)
+      → IsTrue (list_any (λ s. clash (done ++ batch) s t) batch) → Goes (done ++ batch) (t ∷ []) rest later
+      → Goes done batch (t ∷ rest) (batch ∷ later)
   parted done batch t rest later together clashes next = record {
     more = [];
     others = later;

@@ -1,9 +1,10 @@
 pub mod Common
-pub mod Answers
+mod Answers
 mod BatchesExist
-pub mod ClosedLists
+mod ClosedLists
 mod Covered
 mod Decided
+mod EntriesRead
 mod Follows
 mod FrameRows
 mod Frames
@@ -11,7 +12,7 @@ mod FramesExist
 mod FreshDraws
 mod JoinedOneByOne
 mod Left
-pub mod Lists
+mod Lists
 mod OneCut
 mod Orders
 mod Rows

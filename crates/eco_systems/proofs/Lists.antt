@@ -1,7 +1,7 @@
 -- Lists that are filtered, searched and gathered.
 use Rattle.eco_systems.proofs.Common.{◌≡◌, Bool, true, false, cond, ◌&&◌, ◌||◌, List, [], ◌∷◌, ◌++◌, map, filter, refl, sym, ap}
-use Rattle.eco_systems.proofs.Common.{◌∙◌, IsTrue, flat_map, list_any, AllByRecursion, map-append, true≢false, ◌↔◌, Decides-or, Id, id_cmp, id_eq}
-use Rattle.eco_systems.proofs.Common.{has_item, is_ascending, ascending_filter, id_eq_is, id_cmp_total, same_id, append_assoc, inl, inr, arith, joined, SomeOf}
+use Rattle.eco_systems.proofs.Common.{◌∙◌, IsTrue, flat_map, list_any, AllByRecursion, map-append, Id, id_cmp, id_eq, has_item, is_ascending}
+use Rattle.eco_systems.proofs.Common.{ascending_filter, id_eq_is, id_cmp_total, same_id, append_assoc, arith, joined, all_append}
 use Rattle.eco_ids.proofs.Members.{same_members}
 use Rattle.std.proofs.lemmas.Grind.{common_steps}
 
@@ -11,7 +11,8 @@ filter_both q r [] = refl
 filter_both q r (x ∷ xs) = grind (arith, common_steps, filter_both q r xs)
 
 -- a search that asks for q finds nothing outside of q
-pub any_filtered : {A : Type 0} (a q b : A → Bool) (xs : List A) → list_any (λ x. a x && (q x && b x)) xs ≡ list_any (λ x. a x && (q x && b x)) (filter q xs)
+pub any_filtered : {A : Type 0} (a q b : A → Bool) (xs : List A)
+    → list_any (λ x. a x && (q x && b x)) xs ≡ list_any (λ x. a x && (q x && b x)) (filter q xs)
 any_filtered a q b [] = refl
 any_filtered a q b (x ∷ xs) = grind (arith, common_steps, any_filtered a q b xs)
 
@@ -33,10 +34,12 @@ item_filtered q i (x ∷ xs) =
             | true ↦ λ m. ap (λ b. b && true) (sym e ∙ ap q (id_eq_is x i m))
             | false ↦ λ m. refl
           ] refl
-      | false ↦ λ e. item_filtered q i xs ∙ elim (id_eq x i) as (λ t. id_eq x i ≡ t → (q i && has_item id_cmp xs i) ≡ (q i && (t || has_item id_cmp xs i))) [
-        | true ↦ λ m. ap (λ b. b && has_item id_cmp xs i) (sym (ap q (id_eq_is x i m)) ∙ e) ∙ sym (ap (λ b. b && true) (sym (ap q (id_eq_is x i m)) ∙ e))
-        | false ↦ λ m. refl
-      ] refl
+      | false ↦ λ e. item_filtered q i xs ∙ elim (id_eq x i) as (λ t. id_eq x i ≡ t
+          → (q i && has_item id_cmp xs i) ≡ (q i && (t || has_item id_cmp xs i))) [
+            | true ↦ λ m. ap (λ b. b && has_item id_cmp xs i) (sym (ap q (id_eq_is x i m)) ∙ e)
+                ∙ sym (ap (λ b. b && true) (sym (ap q (id_eq_is x i m)) ∙ e))
+            | false ↦ λ m. refl
+          ] refl
     ] refl
 
 -- two ascending lists with the same members that pass are filtered alike
@@ -55,16 +58,14 @@ gathers_nothing [] = refl
 gathers_nothing (x ∷ xs) = gathers_nothing xs
 
 -- what holds of each
-pub all_append : {A : Type 0} (P : A → Type 0) (xs ys : List A) → AllByRecursion P xs → AllByRecursion P ys → AllByRecursion P (xs ++ ys)
-all_append P [] ys p q = q
-all_append P (x ∷ xs) ys p q = (p.0, all_append P xs ys p.1 q)
-
-pub all_gathered : {A B : Type 0} (P : A → Type 0) (Q : B → Type 0) (f : A → List B) → ((x : A) → P x → AllByRecursion Q (f x)) → (xs : List A) →
+pub all_gathered : {A B : Type 0} (P : A → Type 0) (Q : B → Type 0) (f : A → List B) → ((x : A) → P x → AllByRecursion Q (f x)) →
+    (xs : List A) →
     AllByRecursion P xs → AllByRecursion Q (flat_map f xs)
 all_gathered P Q f step [] p = tt
 all_gathered P Q f step (x ∷ xs) p = all_append Q (f x) (flat_map f xs) (step x p.0) (all_gathered P Q f step xs p.1)
 
-pub all_mapped : {A B : Type 0} (P : A → Type 0) (Q : B → Type 0) (f : A → B) → ((x : A) → P x → Q (f x)) → (xs : List A) → AllByRecursion P xs →
+pub all_mapped : {A B : Type 0} (P : A → Type 0) (Q : B → Type 0) (f : A → B) → ((x : A) → P x → Q (f x)) → (xs : List A) →
+    AllByRecursion P xs →
     AllByRecursion Q (map f xs)
 all_mapped P Q f step [] p = tt
 all_mapped P Q f step (x ∷ xs) p = (step x p.0, all_mapped P Q f step xs p.1)
@@ -74,7 +75,8 @@ all_pass q [] = tt
 all_pass q (x ∷ xs) = grind (arith, common_steps, all_pass q xs)
 
 -- maps that agree on each item
-pub same_mapped : {A B : Type 0} (P : A → Type 0) (f g : A → B) → ((x : A) → P x → f x ≡ g x) → (xs : List A) → AllByRecursion P xs → map f xs ≡ map g xs
+pub same_mapped : {A B : Type 0} (P : A → Type 0) (f g : A → B) → ((x : A) → P x → f x ≡ g x) → (xs : List A) → AllByRecursion P xs
+    → map f xs ≡ map g xs
 same_mapped P f g same [] p = refl
 same_mapped P f g same (x ∷ xs) p = λ i. same x p.0 i ∷ same_mapped P f g same xs p.1 i
 
@@ -86,19 +88,3 @@ map_gathered f g (x ∷ xs) = map-append g (f x) (flat_map f xs) ∙ ap (λ zs. 
 pub joined_append : {A : Type 0} (xss yss : List (List A)) → joined (xss ++ yss) ≡ joined xss ++ joined yss
 joined_append [] yss = refl
 joined_append (xs ∷ xss) yss = ap (λ l. xs ++ l) (joined_append xss yss) ∙ sym (append_assoc xs (joined xss) (joined yss))
-
--- one of some
-pub some_left : {A : Type 0} (P : A → Type 0) (xs ys : List A) → SomeOf P xs → SomeOf P (xs ++ ys)
-some_left P [] ys h = absurd h
-some_left P (x ∷ xs) ys (inl h) = inl h
-some_left P (x ∷ xs) ys (inr h) = inr (some_left P xs ys h)
-
-pub some_right : {A : Type 0} (P : A → Type 0) (xs ys : List A) → SomeOf P ys → SomeOf P (xs ++ ys)
-some_right P [] ys h = h
-some_right P (x ∷ xs) ys h = inr (some_right P xs ys h)
-
--- a test finds one exactly where one of those that it is exact for is so
-pub some_exact : {A B : Type 0} (test : A → Bool) (P : B → Type 0) (f : A → B) → ((x : A) → IsTrue (test x) ↔ P (f x)) → (xs : List A) →
-    IsTrue (list_any test xs) ↔ SomeOf P (map f xs)
-some_exact test P f exact [] = (λ t. absurd (true≢false (sym t)), λ x. absurd x)
-some_exact test P f exact (x ∷ xs) = Decides-or (test x) (list_any test xs) (exact x) (some_exact test P f exact xs)

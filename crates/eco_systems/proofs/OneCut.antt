@@ -40,7 +40,8 @@ module _ (w : WorldState) where
     later = subst (λ xs. AreCut w (before ++ xs) xs bs) (sym (append_assoc inside (a ∷ []) r)) x.later;
   }
 
-  enter : (before inside : List SystemModel) (a : SystemModel) (b : List SystemModel) (bs : List (List SystemModel)) → Rest before inside [] ((a ∷ b) ∷ bs) →
+  enter : (before inside : List SystemModel) (a : SystemModel) (b : List SystemModel) (bs : List (List SystemModel)) →
+      Rest before inside [] ((a ∷ b) ∷ bs) →
       Rest (before ++ (inside ++ [])) (a ∷ []) b bs
   enter before inside a b bs x = record { together = ((x.later).1).1; later = (x.later).2 }
 

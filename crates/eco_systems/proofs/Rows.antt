@@ -3,11 +3,11 @@ use Rattle.eco_systems.proofs.Common.{◌≡◌, ℕ, suc, ◌+◌, Bool, true, 
 use Rattle.eco_systems.proofs.Common.{◌∙◌, subst, ◌⊎◌, inl, inr, Option, Some, None, is_some, option_map, unwrap_or, slice_get, arith, eqb-true}
 use Rattle.eco_systems.proofs.Common.{flat_map, AllByRecursion, is_sorted, Entity, Id, Value, value_of, IndexState, Retired, Free, Living, record_in}
 use Rattle.eco_systems.proofs.Common.{living_from, IsLawful, id_cmp, WorldState, Record, held_by, living, record_of, record_apart, QuerySlot, HasPositive}
-use Rattle.eco_systems.proofs.Common.{ValuedRow, entry_value, entry_values, valued, valued_rows, shows_values}
+use Rattle.eco_systems.proofs.Common.{ValuedRow, entry_value, entry_values, valued, valued_rows, shows_values, IsTrue, matches_one, patterns_of}
 use Rattle.eco_ids.proofs.States.{record_here}
 use Rattle.eco_ids.specs.Answer.{Row, choices}
 use Rattle.eco_ids.proofs.Exact.{keys, keys_find, keys_ascending}
-use Rattle.eco_systems.proofs.Answers.{asked, Sees, Alike, IsRead, choices_alike, choices_read, no_choices}
+use Rattle.eco_systems.proofs.Answers.{asked, Sees, Alike, AreRead, IsRead, choices_alike, choices_read, no_choices, read_parts}
 use Rattle.std.proofs.lemmas.Simd.{map-map}
 use Rattle.eco_systems.proofs.Lists.{same_mapped, map_gathered}
 use Rattle.eco_systems.proofs.Same.{LooksSame, value_alike}
@@ -32,25 +32,25 @@ held_sorted w l e = go (record_of w e) refl
     go (Some r) at = (l.orderly.records e r at).ascending
 
 module _ (seen : Id → Bool) (w new : WorldState) (p : LooksSame seen w new) where
-  value_same : (slot : QuerySlot) (e : Entity) (o : Option Id) → IsRead seen o → entry_value (value_of new e) slot.access o ≡ entry_value (value_of w e)
-      slot.access o
-  value_same slot e None h = refl
-  value_same slot e (Some i) h = ap (λ v. cond (shows_values slot.access) v None) (value_alike p e i h)
+  value_same : (slot : QuerySlot) (e : Entity) (o : Option Id) → ((i : Id) → IsTrue (matches_one (patterns_of slot.term) i) → IsTrue (seen i)) →
+      IsRead slot.term o → entry_value (value_of new e) slot.access o ≡ entry_value (value_of w e) slot.access o
+  value_same slot e None sees h = refl
+  value_same slot e (Some i) sees h = ap (λ v. cond (shows_values slot.access) v None) (value_alike p e i (sees i (read_parts slot.term i h).0))
 
-  values_same : (slots : List QuerySlot) (e : Entity) (es : List (Option Id)) → AllByRecursion (IsRead seen) es →
+  values_same : (slots : List QuerySlot) (e : Entity) (es : List (Option Id)) → Sees seen slots → AreRead slots es →
       entry_values (value_of new e) slots es ≡ entry_values (value_of w e) slots es
-  values_same [] e es h = refl
-  values_same (s ∷ ss) e [] h = refl
-  values_same (s ∷ ss) e (o ∷ os) h = λ i. value_same s e o h.0 i ∷ values_same ss e os h.1 i
+  values_same [] e es sees h = refl
+  values_same (s ∷ ss) e [] sees h = refl
+  values_same (s ∷ ss) e (o ∷ os) sees h = λ i. value_same s e o sees.0 h.0 i ∷ values_same ss e os sees.1 h.1 i
 
-  valued_same : (slots : List QuerySlot) (e : Entity) (es : List (Option Id)) → AllByRecursion (IsRead seen) es →
+  valued_same : (slots : List QuerySlot) (e : Entity) (es : List (Option Id)) → Sees seen slots → AreRead slots es →
       valued new slots (row_at e es) ≡ valued w slots (row_at e es)
-  valued_same slots e es h = ap (λ vs. record { entity = e; entries = es; values = vs }) (values_same slots e es h)
+  valued_same slots e es sees h = ap (λ vs. record { entity = e; entries = es; values = vs }) (values_same slots e es sees h)
 
   own_same : (slots : List QuerySlot) → Sees seen slots → IsLawful w → IsLawful new → (e : Entity) → own_rows new slots e ≡ own_rows w slots e
   own_same slots sees l m e =
-      same_mapped (AllByRecursion (IsRead seen)) (λ es. valued new slots (row_at e es)) (λ es. valued w slots (row_at e es)) (λ es h. valued_same slots e es h)
-      (choices (keys (held_by new e)) (asked slots)) (choices_read seen (keys (held_by new e)) slots sees)
+      same_mapped (AreRead slots) (λ es. valued new slots (row_at e es)) (λ es. valued w slots (row_at e es)) (λ es h. valued_same slots e es sees h)
+      (choices (keys (held_by new e)) (asked slots)) (choices_read (keys (held_by new e)) slots)
       ∙ ap (map (λ es. valued w slots (row_at e es))) (choices_alike seen (keys (held_by new e)) (keys (held_by w e)) alike slots sees)
     where
       alike : Alike seen (keys (held_by new e)) (keys (held_by w e))
@@ -91,7 +91,8 @@ lived_or_empty (Some (Living g r)) = inl (g, r, refl)
 abbrev here : ℕ → ℕ → Entity
 here n g = record { index = n; generation = g }
 
-module _ (w new : WorldState) (slots : List QuerySlot) (positive : HasPositive slots) (same : (e : Entity) → own_rows new slots e ≡ own_rows w slots e) where
+module _ (w new : WorldState) (slots : List QuerySlot) (positive : HasPositive slots)
+    (same : (e : Entity) → own_rows new slots e ≡ own_rows w slots e) where
   -- who lives at an index has the rows of that entity
   lived_rows : (v : WorldState) (k g : ℕ) (r : Record) → slice_get v.indices k ≡ Some (Living g r) →
       rows_at (rows_with v slots) k (slice_get v.indices k) ≡ own_rows v slots (here k g)
@@ -101,7 +102,8 @@ module _ (w new : WorldState) (slots : List QuerySlot) (positive : HasPositive s
       (ap (λ s. record_in s g) at ∙ record_here g r))
 
   -- another generation has none
-  other_rows : (v : WorldState) (k f g : ℕ) (r : Record) → slice_get v.indices k ≡ Some (Living f r) → (f ≡ g → ⊥) → own_rows v slots (here k g) ≡ []
+  other_rows : (v : WorldState) (k f g : ℕ) (r : Record) → slice_get v.indices k ≡ Some (Living f r) → (f ≡ g → ⊥)
+      → own_rows v slots (here k g) ≡ []
   other_rows v k f g r at apart = no_rows v slots positive (here k g) (ap (λ s. record_in s g) at ∙ record_apart f g r apart)
 
   both_lived : (k f g : ℕ) (q r : Record) → slice_get new.indices k ≡ Some (Living f q) → slice_get w.indices k ≡ Some (Living g r) →
@@ -122,7 +124,8 @@ module _ (w new : WorldState) (slots : List QuerySlot) (positive : HasPositive s
         | inl a ↦ elim (lived_or_empty (slice_get w.indices k)) as (λ _. rows_at (rows_with new slots) k (slice_get new.indices k) ≡ rows_at
             (rows_with w slots) k (slice_get w.indices k)) [
               | inl b ↦ lived_rows new k a.0 a.1 a.2 ∙ both_lived k a.0 b.0 a.1 b.1 a.2 b.2 ∙ sym (lived_rows w k b.0 b.1 b.2)
-              | inr b ↦ lived_rows new k a.0 a.1 a.2 ∙ same (here k a.0) ∙ no_rows w slots positive (here k a.0) (b.0 a.0) ∙ sym (b.1 (rows_with w slots) k)
+              | inr b ↦ lived_rows new k a.0 a.1 a.2 ∙ same (here k a.0) ∙ no_rows w slots positive (here k a.0) (b.0 a.0)
+                  ∙ sym (b.1 (rows_with w slots) k)
             ]
         | inr a ↦ elim (lived_or_empty (slice_get w.indices k)) as (λ _. rows_at (rows_with new slots) k (slice_get new.indices k) ≡ rows_at
             (rows_with w slots) k (slice_get w.indices k)) [
@@ -154,7 +157,8 @@ module _ (f h : Entity → List (Id × Value) → List ValuedRow) where
       all_same (n + 1) [] xs (λ k m e. is (suc k) m (omega (arith, e)))
       ∙ sym (one_more f n x xs ∙ ap (λ rs. rs ++ all_rows f (n + 1) xs) (sym (is 0 n (omega arith))))
   all_same n (y ∷ ys) [] is =
-      one_more h n y ys ∙ ap (λ rs. rs ++ all_rows h (n + 1) ys) (is 0 n (omega arith)) ∙ all_same (n + 1) ys [] (λ k m e. is (suc k) m (omega (arith, e)))
+      one_more h n y ys ∙ ap (λ rs. rs ++ all_rows h (n + 1) ys) (is 0 n (omega arith))
+      ∙ all_same (n + 1) ys [] (λ k m e. is (suc k) m (omega (arith, e)))
   all_same n (y ∷ ys) (x ∷ xs) is =
       one_more h n y ys
       ∙ (λ i. is 0 n (omega arith) i ++ all_same (n + 1) ys xs (λ k m e. is (suc k) m (omega (arith, e))) i)

@@ -4,7 +4,7 @@ use Rattle.eco_systems.proofs.Common.{Entity, Id, Command, may_want, Runs, World
 use Rattle.eco_systems.proofs.Common.{pieces_of, ValuedRow, valued_rows, SystemModel, IsLawfulSystem, IsDeclared, system_reads, matches_one, IsTraitWriter}
 use Rattle.eco_systems.proofs.Covered.{IsTraitId, TraitsWithin, Written, applies_effect, no_traits, read_untouched}
 use Rattle.eco_systems.proofs.Follows.{meets}
-use Rattle.eco_systems.proofs.Lists.{all_append}
+use Rattle.eco_systems.proofs.Common.{all_append}
 use Rattle.eco_systems.proofs.Same.{LooksSame}
 use Rattle.eco_systems.proofs.Steps.{Effect, effect_itself, effect_then}
 

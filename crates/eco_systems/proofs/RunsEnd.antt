@@ -46,7 +46,8 @@ judged_other w e s after v = by (list_any is_wrong_policy s) (list_any (is_late 
     verdict_other false (Some r) = refused refl
 
     by : (b c : Bool) →
-        MatchBool b (v ≡ Some NotAPolicy) (MatchBool c (v ≡ Some InUse) ((o : Option Entity) × IsFirstCycle w e s o × (v ≡ verdict_of (has_clash after) o)))
+        MatchBool b (v ≡ Some NotAPolicy) (MatchBool c (v ≡ Some InUse) ((o : Option Entity) × IsFirstCycle w e s o
+        × (v ≡ verdict_of (has_clash after) o)))
         → AreOther v
     by true c h = rw h (refused refl)
     by false true h = rw h (refused refl)

@@ -21,5 +21,6 @@ arity_alike {w = w} {new = new} p (One e) = p.arity e
 arity_alike {w = w} {new = new} p (Two r t) = same_arity w new p.edition (Two r t) (p.arity r, p.arity t)
 
 -- an id that is seen has the same value
-pub value_alike : {seen : Id → Bool} {w new : WorldState} → LooksSame seen w new → (e : Entity) (i : Id) → IsTrue (seen i) → value_of new e i ≡ value_of w e i
+pub value_alike : {seen : Id → Bool} {w new : WorldState} → LooksSame seen w new → (e : Entity) (i : Id) → IsTrue (seen i)
+    → value_of new e i ≡ value_of w e i
 value_alike {w = w} {new = new} p e i h = λ k. cond (is_some (arity_alike p i k)) (p.held e i h k) None

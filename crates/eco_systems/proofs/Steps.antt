@@ -238,7 +238,8 @@ module _ (w : WorldState) (i : Id) (s : List Id) (closure : IsClosure w i s) whe
       ∙ (λ k. option_or (cond (not (not_replaced j n k)) (find id_cmp j d.held) None) (cond (not_in j n k) (Some zeros) None))
       ∙ or_none (find id_cmp j d.held)
 
-  closure_gains : (d : Record) (j : Id) → IsTrue (is_some (find id_cmp j (with_closure w s d).held)) → IsTrue (is_some (find id_cmp j d.held)) ⊎ Given w i j
+  closure_gains : (d : Record) (j : Id) → IsTrue (is_some (find id_cmp j (with_closure w s d).held))
+      → IsTrue (is_some (find id_cmp j d.held)) ⊎ Given w i j
   closure_gains d j h =
       either_some (not (is_replaced w s j)) (has_item id_cmp s j) (find id_cmp j d.held) (λ m. (closure.exact j).0 m)
       (ap is_some (sym (closure_find w s d j)) ∙ h)
@@ -256,7 +257,8 @@ mirror_effect : {kills : Bool} (w half : WorldState) (e : Entity) (i : Id) (o : 
 mirror_effect w half e i None is = effect_itself
 mirror_effect w half e i (Some m) is =
     effect_changed half m.0 (with_id m.1) (λ d. refl)
-    (λ d j n. zero_find d.held m.1 j ∙ ap (λ b. option_or (find id_cmp j d.held) (cond b (Some zeros) None)) (not_same j m.1 (λ k. n (inr (inr (twin j k)))))
+    (λ d j n. zero_find d.held m.1 j ∙ ap (λ b. option_or (find id_cmp j d.held) (cond b (Some zeros) None))
+    (not_same j m.1 (λ k. n (inr (inr (twin j k)))))
     ∙ or_none (find id_cmp j d.held))
     (λ d j h. came d j (some_of (find id_cmp j (with_id m.1 d).held) h))
   where
@@ -321,7 +323,8 @@ module _ {kills : Bool} (kill : IsTrue kills) {T G : Id → Type 0} (w : WorldSt
   deletes_effect : (IsRoot : Entity → Type 0) → Leads kills w T G (Deletes w IsRoot)
   deletes_effect IsRoot = record { at = λ r new h. ends h.0 r new h.2 }
     where
-      left : (b : Bool) (goes : Id → Bool) (o : Option Record) (j : Id) → IsTrue (has_in (cond b None (option_map (keeping goes) o)) j) → IsTrue (has_in o j)
+      left : (b : Bool) (goes : Id → Bool) (o : Option Record) (j : Id) → IsTrue (has_in (cond b None (option_map (keeping goes) o)) j)
+          → IsTrue (has_in o j)
       left true goes o j h = absurd (true≢false (sym h))
       left false goes o j h = keeping_gains goes o j h
 
@@ -331,7 +334,8 @@ module _ {kills : Bool} (kill : IsTrue kills) {T G : Id → Type 0} (w : WorldSt
         arity = λ tame. absurd (tame kill);
         held = λ tame. absurd (tame kill);
         gains = λ x j g. inl (left (has_item entity_cmp members x) (names_any members) (record_of w x) j
-            (ap (λ o. has_in o j) (sym (record_left w (has_item entity_cmp members) (λ e i. names_any members i) x)) ∙ ap (λ v. has v x j) (sym k.0) ∙ g));
+            (ap (λ o. has_in o j) (sym (record_left w (has_item entity_cmp members) (λ e i. names_any members i) x)) ∙ ap (λ v. has v x j) (sym k.0)
+            ∙ g));
       }
       ends members (Err why) new k = rw k.0 effect_itself
 

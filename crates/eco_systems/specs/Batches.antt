@@ -2,10 +2,11 @@
 use Rattle.std.specs.Prelude.{◌≡◌, IsTrue, List, [], ◌∷◌, ◌++◌, ◌⊎◌}
 use Rattle.std.specs.List.{list_any}
 use Rattle.eco_ids.specs.declared.pattern.Pattern.{Pattern}
+use Rattle.eco_ids.specs.Least.{SomeOf}
 use Rattle.eco_ids.specs.Matching.{pattern_overlaps}
 use Rattle.eco_ids.specs.World.{WorldState}
 use Rattle.eco_systems.specs.Systems.{SystemModel, system_reads}
-use Rattle.eco_systems.specs.Writes.{SomeOf, IsClosedWrite, IsTraitWriter}
+use Rattle.eco_systems.specs.Writes.{IsClosedWrite, IsTraitWriter}
 
 -- a closed write of s overlaps a read of t
 abbrev pub Disturbs : WorldState → SystemModel → SystemModel → Type 0

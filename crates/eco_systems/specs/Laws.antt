@@ -1,25 +1,29 @@
 -- The laws above the definitions, as the contracts of `src/laws.rt` cite them.
-use Rattle.std.specs.Prelude.{◌≡◌, ◌↔◌, ◌<◌, ℕ, Bool, not, IsTrue, List, [], ◌∷◌, ◌++◌, length, map, slice_get, Some, None, Err, ◌⊎◌}
+use Rattle.std.specs.Prelude.{◌≡◌, ◌↔◌, ◌<◌, ℕ, Bool, not, IsTrue, Contains, List, [], ◌∷◌, ◌++◌, length, map, slice_get, Some, None, Err, ◌⊎◌}
 use Rattle.std.specs.List.{AllByRecursion, list_all}
 use Rattle.eco_ids.specs.declared.entity.Entity.{Entity}
 use Rattle.eco_ids.specs.declared.entity.TheConstants.{WITH}
+use Rattle.eco_ids.specs.declared.id.Id.{Id}
+use Rattle.eco_ids.specs.declared.id.Id.TheVariants as id
 use Rattle.eco_ids.specs.declared.pattern.Pattern.{Pattern}
 use Rattle.eco_ids.specs.declared.refusal.Refusal.{Refusal}
 use Rattle.eco_ids.specs.Lawful.{IsLawful}
 use Rattle.eco_ids.specs.Order.{entity_cmp, has_item}
 use Rattle.eco_ids.specs.Outcome.{is_out_of_memory}
 use Rattle.eco_ids.specs.Run.{Command, Runs}
+use Rattle.eco_ids.specs.Terms.{Not}
 use Rattle.eco_ids.specs.Traits.{Reaches}
-use Rattle.eco_ids.specs.World.{WorldState}
+use Rattle.eco_ids.specs.World.{WorldState, has}
+use Rattle.eco_query.specs.Queries.{QuerySlot, patterns_of}
 use Rattle.eco_systems.specs.Batches.{AreBatches, Conflict, joined}
 use Rattle.eco_systems.specs.Closing.{Among, ListsClosed, pattern_head, pattern_with_head}
 use Rattle.eco_systems.specs.Frames.{BatchDraws, FrameOutcomes, IsFrame, IsFrameAlone, IsSolo, IsFrameSoFar, IsSoloSoFar, FrameIsStopped, AreAscending}
 use Rattle.eco_systems.specs.Frames.{AreFresh}
 use Rattle.eco_systems.specs.Joining.{batched}
 use Rattle.eco_systems.specs.Phases.{in_order, order_of}
-use Rattle.eco_systems.specs.Rows.{ValuedRow}
-use Rattle.eco_systems.specs.Systems.{IsLawfulSystem, SystemModel}
-use Rattle.eco_systems.specs.Writes.{widened}
+use Rattle.eco_systems.specs.Rows.{ValuedRow, valued_rows}
+use Rattle.eco_systems.specs.Systems.{IsLawfulSystem, SystemModel, matches_one}
+use Rattle.eco_systems.specs.Writes.{BringsPattern, widened}
 
 -- a frame of lawful systems on a lawful world is the run of its systems one by one: with the same draws, outcomes and last world
 abbrev pub FramesAreSolo : Type 0
@@ -109,6 +113,19 @@ JoiningMakesBatches =
     → ((before : List ℕ) (s t : ℕ) → IsTrue (clash before s t) ↔ Conflict w (map at before ++ at t ∷ []) (at s) (at t))
     → (first : ℕ) (rest : List ℕ)
     → (joined (batched clash [] [] (first ∷ rest)) ≡ first ∷ rest) × AreBatches w (map at (first ∷ rest)) (map (map at) (batched clash [] [] (first ∷ rest)))
+
+-- an entry of a row stands at a slot that is no `!` slot, one of whose patterns reads it
+abbrev pub EntriesAreRead : Type 0
+EntriesAreRead =
+    (w : WorldState) (slots : List QuerySlot) (row : ValuedRow) (n : ℕ) (i : Id)
+    → Contains (valued_rows w slots) row → slice_get row.entries n ≡ Some (Some i)
+    → (s : QuerySlot) × (slice_get slots n ≡ Some s) × IsTrue (matches_one (patterns_of s.term) i) × ((p : Pattern) → s.term ≡ Not p → ⊥)
+
+-- a pattern brings another where its head has a pair of With, whose target is the head of the other
+abbrev pub HeadsBring : Type 0
+HeadsBring =
+    (w : WorldState) (p q : Pattern)
+    → BringsPattern w p q ↔ (h : Entity) × (x : Entity) × (pattern_head p ≡ Some h) × IsTrue (has w h (id.Two WITH x)) × (q ≡ pattern_with_head p x)
 
 -- no patterns have no closed writes
 abbrev pub NoneAreListed : Type 0

@@ -10,7 +10,7 @@ use Rattle.eco_ids.specs.declared.pattern.Pattern.{Pattern}
 use Rattle.eco_ids.specs.declared.pattern.Pattern.TheVariants.{One, Two}
 use Rattle.eco_ids.specs.Builtin.{is_among_first}
 use Rattle.eco_ids.specs.Edition.{builtin_count}
-use Rattle.eco_ids.specs.Least.{Least}
+use Rattle.eco_ids.specs.Least.{Least, SomeOf}
 use Rattle.eco_ids.specs.Order.{entity_eq}
 use Rattle.eco_ids.specs.World.{WorldState, has, is_widened}
 use Rattle.eco_systems.specs.Systems.{SystemModel}
@@ -26,11 +26,6 @@ BringsPattern w (Two Any q) (Two p u) = ⊥
 BringsPattern w (Two (Is r) q) (Two Each u) = ⊥
 BringsPattern w (Two (Is r) q) (Two Any u) = ⊥
 BringsPattern w (Two (Is r) q) (Two (Is x) u) = IsTrue (has w r (id.Two WITH x)) × (u ≡ q)
-
--- one of them is so
-abbrev pub SomeOf : {A : Type 0} → (A → Type 0) → List A → Type 0
-SomeOf P [] = ⊥
-SomeOf P (x ∷ xs) = P x ⊎ SomeOf P xs
 
 -- the patterns closed: the least set that holds them and what each brings
 abbrev pub InClosedPatterns : WorldState → List Pattern → Pattern → Type 0

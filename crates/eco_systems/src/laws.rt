@@ -1,7 +1,8 @@
 //! Laws of frames: each function does nothing, and its contract is the law.
 ghost use Rattle.std.specs.Prelude.{◌≡◌};
-ghost use Rattle.eco_systems.specs.Laws.{AscendingAreFresh, BatchesAreUnique, BatchesExist, DrawsDecide, FramesAreSolo, FramesExist};
-ghost use Rattle.eco_systems.specs.Laws.{FramesKeepLawful, HeadlessAreAmong, HeadsAreAmong, JoiningMakesBatches};
+ghost use Rattle.eco_systems.specs.Laws.{AscendingAreFresh, BatchesAreUnique, BatchesExist, DrawsDecide, EntriesAreRead, FramesAreSolo};
+ghost use Rattle.eco_systems.specs.Laws.{FramesExist, FramesKeepLawful, HeadlessAreAmong, HeadsAreAmong, HeadsBring};
+ghost use Rattle.eco_systems.specs.Laws.{JoiningMakesBatches};
 ghost use Rattle.eco_systems.specs.Laws.{NoneAreListed, OneMoreIsListed, OneWorkerDecides, OrderHasSystems};
 ghost use Rattle.eco_systems.specs.Laws.{RefusedCommandsChangeNothing, StoppedAreSolo, StoppedAtOnceChangesNothing, StoppedHaveMore};
 ghost use Rattle.eco_systems.specs.Phases.{phases};
@@ -41,6 +42,17 @@ pub fn batches_are_unique()
     ensures exist { BatchesExist }
     ensures unique { BatchesAreUnique }
     ensures joining { JoiningMakesBatches }
+{}
+
+/// An entry of a row is an id that its slot reads, and a `!` slot has none.
+pub fn entries_are_read()
+    ensures { EntriesAreRead }
+{}
+
+/// By With a pattern brings what has another head: the target of such a pair of its own head, be it a single or the relationship
+/// of its pairs.
+pub fn heads_bring_patterns()
+    ensures { HeadsBring }
 {}
 
 /// Closed writes are listed pattern by pattern: no patterns have none, one more pattern adds its own, a pattern with a head has

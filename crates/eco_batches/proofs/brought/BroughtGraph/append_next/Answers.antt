@@ -10,4 +10,5 @@ returns-clause-exact g c =
     c.append_brought.result c.append_brought.ensures
 
 pub returns-clause-within : goal.returns-clause-within
-returns-clause-within g c = all_known (g.H.Holdings.world c.args.self.now.holdings.now) c.args.key c.target_is_known.ensures
+returns-clause-within g c =
+    all_known (g.H.Holdings.world c.args.self.now.holdings.now) c.heads_bring_patterns.ensures c.args.key c.target_is_known.ensures

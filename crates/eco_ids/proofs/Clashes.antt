@@ -106,7 +106,8 @@ module _ (w : WorldState) (e : Entity) (i : Id) (s : List Id) (d : Record) (at :
 
     -- e itself would, or a symmetric one has come along with it
     abbrev Clashes : Type 0
-    Clashes = (IsTrue (has w e (One SYMMETRIC) || has_item id_cmp s (One SYMMETRIC)) × IsTrue (would_be_barred w e s)) ⊎ IsTrue (list_any (ties_symmetric w) s)
+    Clashes = (IsTrue (has w e (One SYMMETRIC) || has_item id_cmp s (One SYMMETRIC))
+        × IsTrue (would_be_barred w e s)) ⊎ IsTrue (list_any (ties_symmetric w) s)
 
     own_trait : (r c : Entity) → r ≡ e → IsTrue (has (grown w e i s) r (One c)) → IsTrue (has w e (One c) || has_item id_cmp s (One c))
     own_trait r c is h = elim (came r (One c) (one_plain c) h) as (λ _. IsTrue (has w e (One c) || has_item id_cmp s (One c))) [
@@ -129,7 +130,8 @@ module _ (w : WorldState) (e : Entity) (i : Id) (s : List Id) (d : Record) (at :
     barred_with h = or_right (is_exclusive w e || has_item id_cmp s (One EXCLUSIVE)) _ (or_right (is_acyclic w e || has_item id_cmp s (One ACYCLIC)) _ h)
 
     -- whoever has become symmetric is e
-    was_or_is : (r : Entity) → IsTrue (is_symmetric (grown w e i s) r) → IsTrue (is_symmetric w r) ⊎ ((r ≡ e) × IsTrue (has_item id_cmp s (One SYMMETRIC)))
+    was_or_is : (r : Entity) → IsTrue (is_symmetric (grown w e i s) r)
+        → IsTrue (is_symmetric w r) ⊎ ((r ≡ e) × IsTrue (has_item id_cmp s (One SYMMETRIC)))
     was_or_is r h = elim (came r (One SYMMETRIC) (one_plain SYMMETRIC) (second (has_symmetric (grown w e i s).edition) _ h)) as (λ _. IsTrue (is_symmetric w r)
         ⊎ ((r ≡ e) × IsTrue (has_item id_cmp s (One SYMMETRIC)))) [
           | inl k ↦ inl (both (has_symmetric w.edition) _ has_it k)
@@ -137,10 +139,12 @@ module _ (w : WorldState) (e : Entity) (i : Id) (s : List Id) (d : Record) (at :
         ]
 
     -- e is symmetric in either case
-    own_symmetric : (r : Entity) → r ≡ e → IsTrue (is_symmetric (grown w e i s) r) → IsTrue (has w e (One SYMMETRIC) || has_item id_cmp s (One SYMMETRIC))
+    own_symmetric : (r : Entity) → r ≡ e → IsTrue (is_symmetric (grown w e i s) r)
+        → IsTrue (has w e (One SYMMETRIC) || has_item id_cmp s (One SYMMETRIC))
     own_symmetric r is h = own_trait r SYMMETRIC is (second (has_symmetric (grown w e i s).edition) _ h)
 
-    by_trait : (r c : Entity) → (IsTrue (is_symmetric w r) → IsTrue (has w r (One c)) → ⊥) → (IsTrue (has w e (One c) || has_item id_cmp s (One c)) →
+    by_trait : (r c : Entity) → (IsTrue (is_symmetric w r) → IsTrue (has w r (One c)) → ⊥) →
+        (IsTrue (has w e (One c) || has_item id_cmp s (One c)) →
         IsTrue (would_be_barred w e s)) → IsTrue (is_symmetric (grown w e i s) r) → IsTrue (has (grown w e i s) r (One c)) → Clashes
     by_trait r c never bars sy h =
         let is : r ≡ e = elim (was_or_is r sy) as (λ _. r ≡ e) [ inl k ↦ fresh_trait r c (never k) h | inr k ↦ k.0 ] in
@@ -328,6 +332,7 @@ quiet_clash w e s l quiet = by (has_symmetric w.edition) refl
     by false h = ap (λ c. c && Rest) h
 
 -- so the add of such a closure does
-pub quiet_grows : (w : WorldState) (e : Entity) (i : Id) (s : List Id) (d : Record) → record_of w e ≡ Some d → IsClosure w i s → IsTrue (names_living w i) →
+pub quiet_grows : (w : WorldState) (e : Entity) (i : Id) (s : List Id) (d : Record) → record_of w e ≡ Some d → IsClosure w i s →
+    IsTrue (names_living w i) →
     (IsTrue (has_symmetric w.edition) → IsLawful w) → (IsTrue (has_symmetric w.edition) → IsQuiet s) → IsFalse (has_clash (grown w e i s))
 quiet_grows w e i s d at closure named l quiet = clash_is_local w e i s d at closure named l ∙ quiet_clash w e s l quiet

@@ -55,7 +55,8 @@ module _ (w : WorldState) (members : List Entity) where
       ⊎_elim (λ h. first_member h.0 h.1) (λ none. (Ok tt, after_delete w members, (refl, λ h m f. none h (m, f))))
       (least_of entity_cmp_total ForbidsSome decide_some (the_living w) (λ h s. living_in w h (s.1).0))
 
-pub deletes_end : (w : WorldState) (IsRoot : Entity → Type 0) → ((e : Entity) → Decided (IsRoot e)) → ((e : Entity) → IsRoot e → IsTrue (is_alive w e))
+pub deletes_end : (w : WorldState) (IsRoot : Entity → Type 0) → ((e : Entity) → Decided (IsRoot e))
+    → ((e : Entity) → IsRoot e → IsTrue (is_alive w e))
     → End (Deletes w IsRoot)
 deletes_end w IsRoot is_root alive =
     let members = doomed_listed w IsRoot is_root alive in

@@ -35,7 +35,8 @@ at_once : {A S : Type 0} (old : S) (unfit : Option Refusal) (x : A) (after : S) 
 at_once old unfit x after = by_option old unfit _ _ (answers old x after) (λ why. refuses old why)
 
 -- a step of the entities that is settled is settled in the world
-lifted : {A : Type 0} (w : WorldState) (Step : Indexed Record → Result A Refusal → Indexed Record → Type 0) → IsSettled (entities w) (Step (entities w)) →
+lifted : {A : Type 0} (w : WorldState) (Step : Indexed Record → Result A Refusal → Indexed Record → Type 0) →
+    IsSettled (entities w) (Step (entities w)) →
     IsSettled w (OnEntities Step w)
 lifted w Step s = grind (arith, common_steps)
 

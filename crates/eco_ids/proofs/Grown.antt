@@ -85,7 +85,8 @@ grown_at w e i s d at own = by (mirror_of w e i) refl
 pub record Grows (w : WorldState) (e : Entity) (i : Id) (s : List Id) (new : WorldState) : Type 0 where
   pub edition : new.edition ≡ w.edition
   pub came : (x : Entity) (j : Id) → IsTrue (has new x j) →
-      (IsTrue (has w x j) ⊎ ((x ≡ e) × IsTrue (has_item id_cmp s j))) ⊎ ((m : Entity × Id) × (mirror_of w e i ≡ Some m) × (x ≡ m.0) × (m.1 ≡ j))
+      (IsTrue (has w x j) ⊎ ((x ≡ e) × IsTrue (has_item id_cmp s j))) ⊎ ((m : Entity × Id) × (mirror_of w e i ≡ Some m) × (x ≡ m.0)
+      × (m.1 ≡ j))
   pub stays : (x : Entity) (j : Id) → IsTrue (has w x j) → IsFalse (is_replaced w s j) → IsTrue (has new x j)
   pub there : (j : Id) → IsTrue (has_item id_cmp s j) → IsTrue (has new e j)
   pub mirror : (m : Entity × Id) → mirror_of w e i ≡ Some m → IsTrue (has new m.0 m.1)

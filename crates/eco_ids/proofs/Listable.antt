@@ -81,7 +81,8 @@ module _ {A : Type 0} (P : A → Type 0) (test : (x : A) → Decided (P x)) wher
 -- an item is one of the list
 pub item_in : {K : Type 0} {R : K → K → Ordering} → IsAntisymmetric R → (xs : List K) (x : K) → IsTrue (has_item R xs x) → In x xs
 item_in same [] x h = true≢false (sym h)
-item_in {R = R} same (y ∷ ys) x h = ⊎_elim (λ e. inl (same y x (equal_tie _ e))) (λ m. inr (item_in same ys x m)) (or_parts (is_eq (R y x)) (has_item R ys x) h)
+item_in {R = R} same (y ∷ ys) x h = ⊎_elim (λ e. inl (same y x (equal_tie _ e))) (λ m. inr (item_in same ys x m))
+    (or_parts (is_eq (R y x)) (has_item R ys x) h)
 
 -- the least of those that pass
 pub record IsLeastOf {A : Type 0} (R : A → A → Ordering) (P : A → Type 0) (x : A) : Type 0 where
@@ -131,7 +132,8 @@ module _ {K : Type 0} {R : K → K → Ordering} (o : IsTotalOrder R) where
       by (inr n) (inr none) = inr (λ y h p. ⊎_elim (λ e. n (subst P (sym e) p)) (λ m. none y m p) h)
 
   -- the least that passes, where all that pass are in a list
-  pub least_of : (P : K → Type 0) → ((x : K) → Decided (P x)) → (xs : List K) → ((x : K) → P x → In x xs) → ((x : K) × IsLeastOf R P x) ⊎ ((x : K) → P x → ⊥)
+  pub least_of : (P : K → Type 0) → ((x : K) → Decided (P x)) → (xs : List K) → ((x : K) → P x → In x xs)
+      → ((x : K) × IsLeastOf R P x) ⊎ ((x : K) → P x → ⊥)
   least_of P test xs all =
       ⊎_elim (λ k. inl (k.0, record { passes = k.1.passes.1; least = λ y p. k.1.least y (all y p, p) }))
       (λ none. inr (λ x p. none x (all x p) p)) (least_in P test xs)
@@ -146,7 +148,8 @@ module _ {K : Type 0} {R : K → K → Ordering} (o : IsTotalOrder R) where
         with_item R rest.0 x,
         ascending_with o rest.0 x rest.1,
         λ y. (
-          λ h. ⊎_elim (λ e. inl (same x y (equal_tie _ e))) (λ m. inr ((rest.2 y).0 m)) (or_parts (is_eq (R x y)) (has_item R rest.0 y) (sym (joins y) ∙ h)),
+          λ h. ⊎_elim (λ e. inl (same x y (equal_tie _ e))) (λ m. inr ((rest.2 y).0 m))
+              (or_parts (is_eq (R x y)) (has_item R rest.0 y) (sym (joins y) ∙ h)),
           λ h. joins y ∙ ⊎_elim (λ e. ap (λ r. is_eq r || has_item R rest.0 y) (tied y e)) (λ m. or_right (is_eq (R x y)) _ ((rest.2 y).1 m)) h,
         ),
       )
@@ -178,7 +181,8 @@ module _
       all_taken {x = x} (root r) = ⊎_elim (λ h. h) (λ h. absurd (none x h (inl r))) (g.cover x (inside x (root r)))
       all_taken (next {a = a} {b = b} m l) = ⊎_elim (λ h. h) (λ h. absurd (none b h (inr (a, all_taken m, l)))) (g.cover b (inside b (next m l)))
 
-  advance : (n : ℕ) (members others : List A) → Growth (suc n) members others → (k : Picked (Follows members) others) → Growth n (k.item ∷ members) k.others
+  advance : (n : ℕ) (members others : List A) → Growth (suc n) members others → (k : Picked (Follows members) others)
+      → Growth n (k.item ∷ members) k.others
   advance n members others g k =
       let shorter : length others ≡ suc (length k.others) = k.shorter in
       let size : length others ≡ suc n = g.size in

@@ -12,7 +12,8 @@ handles_from n xs = map (λ p. p.0) (living_from n xs)
 one_on : (n k g : ℕ) (es : List Entity) → In (handle ((n + 1) + k) g) es → In (handle (n + suc k) g) es
 one_on n k g es h = let e : (n + 1) + k ≡ n + suc k = omega arith in subst (λ m. In (handle m g) es) e h
 
-state_in : (n : ℕ) (xs : List (IndexState Record)) (k g : ℕ) → IsTrue (is_some (record_in (slice_get xs k) g)) → In (handle (n + k) g) (handles_from n xs)
+state_in : (n : ℕ) (xs : List (IndexState Record)) (k g : ℕ) → IsTrue (is_some (record_in (slice_get xs k) g))
+    → In (handle (n + k) g) (handles_from n xs)
 state_in n [] k g h = absurd (true≢false (sym h))
 state_in n (Living f r ∷ xs) zero g h =
     grind (arith, common_steps, eqb-true)

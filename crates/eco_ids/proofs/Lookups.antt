@@ -15,18 +15,21 @@ record IsFound (name : List ℕ) (n : ℕ) (xs : List (IndexState Record)) (p : 
   here : record_in (slice_get xs place) p.0.generation ≡ Some p.1
   called_so : IsTrue (is_called name p.1.name)
 
-later : (name : List ℕ) (n : ℕ) (x : IndexState Record) (xs : List (IndexState Record)) (p : Entity × Record) → IsFound name (n + 1) xs p → IsFound name n
+later : (name : List ℕ) (n : ℕ) (x : IndexState Record) (xs : List (IndexState Record)) (p : Entity × Record) → IsFound name (n + 1) xs p
+    → IsFound name n
     (x ∷ xs) p
 later name n x xs p m =
     let at : p.0.index ≡ (n + 1) + m.place = m.index in
     record { place = suc m.place; index = omega (arith, at); here = m.here; called_so = m.called_so }
 
-found : (name : List ℕ) (n : ℕ) (xs : List (IndexState Record)) (p : Entity × Record) → find_item (λ q. is_called name q.1.name) (living_from n xs) ≡ Some p
+found : (name : List ℕ) (n : ℕ) (xs : List (IndexState Record)) (p : Entity × Record)
+    → find_item (λ q. is_called name q.1.name) (living_from n xs) ≡ Some p
     → IsFound name n xs p
 found name n [] p h = absurd (none-some p h)
 found name n (Living f r ∷ xs) p h = by (is_called name r.name) refl h (found name (n + 1) xs p)
   where
-    by : {rest : Option (Entity × Record)} (b : Bool) → is_called name r.name ≡ b → cond b (Some (record { index = n; generation = f }, r)) rest ≡ Some p
+    by : {rest : Option (Entity × Record)} (b : Bool) → is_called name r.name ≡ b
+        → cond b (Some (record { index = n; generation = f }, r)) rest ≡ Some p
         → (rest ≡ Some p → IsFound name (n + 1) xs p) → IsFound name n (Living f r ∷ xs) p
     by true called_so is go = subst (IsFound name n (Living f r ∷ xs)) (same_Some _ p is) (record {
       place = 0;
@@ -41,7 +44,8 @@ found name n (x ∷ xs) p h = later name n x xs p (found name (n + 1) xs p h)
 has_name : (w : WorldState) (name : List ℕ) (e : Entity) → lookup w name ≡ Some e → own_name w e ≡ Some name
 has_name w name e = by (find_item (λ q. is_called name q.1.name) (living w)) refl
   where
-    by : (o : Option (Entity × Record)) → find_item (λ q. is_called name q.1.name) (living w) ≡ o → option_map (λ p. p.0) o ≡ Some e → own_name w e ≡ Some name
+    by : (o : Option (Entity × Record)) → find_item (λ q. is_called name q.1.name) (living w) ≡ o → option_map (λ p. p.0) o ≡ Some e
+        → own_name w e ≡ Some name
     by None at is = absurd (none-some e is)
     by (Some p) at is =
         let m = found name 0 w.indices p at in

@@ -140,7 +140,8 @@ pub losses_one_by_one : (w : WorldState) (goes : Entity → Id → Bool) (es : L
 losses_one_by_one w goes es others = without_alike w goes (of_these goes es) (λ x i there. same x i there (has_item entity_cmp es x) refl)
     ∙ these_lose goes w es
   where
-    same : (x : Entity) (i : Id) → IsTrue (has w x i) → (b : Bool) → has_item entity_cmp es x ≡ b → goes x i ≡ (has_item entity_cmp es x && goes x i)
+    same : (x : Entity) (i : Id) → IsTrue (has w x i) → (b : Bool) → has_item entity_cmp es x ≡ b
+        → goes x i ≡ (has_item entity_cmp es x && goes x i)
     same x i there true h = sym (ap (λ c. c && goes x i) h)
     same x i there false h = others x i there h ∙ sym (ap (λ c. c && goes x i) h)
 
@@ -166,7 +167,8 @@ among_holders w e (k ∷ js) j m h is = by (or_parts (id_eq k j) (has_item id_cm
     later None p = p
     later (Some n) p = or_right (entity_eq n.0 m.0) _ p
 
-    by : IsTrue (id_eq k j) ⊎ IsTrue (has_item id_cmp js j) → (IsTrue (has_item id_cmp js j) → IsTrue (has_item entity_cmp (mirror_holders w e js) m.0)) →
+    by : IsTrue (id_eq k j) ⊎ IsTrue (has_item id_cmp js j) →
+        (IsTrue (has_item id_cmp js j) → IsTrue (has_item entity_cmp (mirror_holders w e js) m.0)) →
         IsTrue (has_item entity_cmp (with_holder (mirror_of w e k) (mirror_holders w e js)) m.0)
     by (inl same) rest =
         ap (λ o. has_item entity_cmp (with_holder o (mirror_holders w e js)) m.0) (ap (mirror_of w e) (id_eq_is k j same) ∙ is)

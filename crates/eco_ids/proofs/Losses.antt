@@ -67,7 +67,8 @@ proper_left dies goes n (Living g r ∷ xs) h =
 where_all : (p : Id → Bool) (es : List (Id × Value)) → ((i : Id) → IsTrue (is_some (find id_cmp i es)) → IsTrue (p i)) → where_key id_cmp p es ≡ es
 where_all p [] h = refl
 where_all p (e ∷ es) h =
-    ap (λ b. cond b (e ∷ where_key id_cmp p es) (where_key id_cmp p es)) (h e.0 (ap (λ b. is_some (cond b (Some e.1) (find id_cmp e.0 es))) (id_eq_itself e.0)))
+    ap (λ b. cond b (e ∷ where_key id_cmp p es) (where_key id_cmp p es))
+    (h e.0 (ap (λ b. is_some (cond b (Some e.1) (find id_cmp e.0 es))) (id_eq_itself e.0)))
     ∙ ap (λ xs. e ∷ xs) (where_all p es (λ i k. h i (later i (id_eq i e.0) k)))
   where
     later : (i : Id) (b : Bool) → IsTrue (is_some (find id_cmp i es)) → IsTrue (is_some (cond b (Some e.1) (find id_cmp i es)))
@@ -98,7 +99,8 @@ pub record IsFitLoss (w : WorldState) (dies : Entity → Bool) (goes : Entity �
   pub untouched : (x : Entity) (i : Id) → IsTrue (is_builtin w x) → IsTrue (has w x i) → IsFalse (goes x i)
   pub named : (x : Entity) (i : Id) → IsFalse (dies x) → IsFalse (goes x i) → Named (λ e. IsFalse (dies e)) i
 
-pub orderly_loss : (w : WorldState) (dies : Entity → Bool) (goes : Entity → Id → Bool) → IsOrderly w → IsFitLoss w dies goes → IsOrderly (without w dies goes)
+pub orderly_loss : (w : WorldState) (dies : Entity → Bool) (goes : Entity → Id → Bool) → IsOrderly w → IsFitLoss w dies goes
+    → IsOrderly (without w dies goes)
 orderly_loss w dies goes l f = orderly_shrink l (record {
   edition = refl;
   limit = refl;
@@ -223,7 +225,8 @@ acts_lawful w e goes r new own l =
     (λ x i h _. own x i (off (entity_eq x e) (λ k. not_both (subst (λ y. IsTrue (is_builtin w y)) (entity_eq_is x e k) h)
     (passed (is_builtin w e) Reserved _ (passed (not (is_alive w e)) NotAlive _ fit).1).0))))
 
-pub removes_lawful : (w : WorldState) (e : Entity) (i : Id) (r : Result (Unit {0}) Refusal) (new : WorldState) → IsLawful w → Removes w e i r new → IsLawful new
+pub removes_lawful : (w : WorldState) (e : Entity) (i : Id) (r : Result (Unit {0}) Refusal) (new : WorldState) → IsLawful w → Removes w e i r new
+    → IsLawful new
 removes_lawful w e i r new = acts_lawful w e (λ x j. entity_eq x e && id_eq j i) r new (λ x j h. ap (λ b. b && id_eq j i) h)
 
 pub clears_lawful : (w : WorldState) (e : Entity) (r : Result (Unit {0}) Refusal) (new : WorldState) → IsLawful w → Clears w e r new → IsLawful new
@@ -273,7 +276,8 @@ module _ (e : Entity) (goes : Id → Bool) where
   abbrev one_goes : ℕ → IndexState Record → IndexState Record
   one_goes = left_at nobody (λ x j. entity_eq x e && goes j)
 
-  other_stays : (n : ℕ) (x : IndexState Record) → ((g : ℕ) (r : Record) → x ≡ Living g r → record { index = n; generation = g } ≡ e → ⊥) → one_goes n x ≡ x
+  other_stays : (n : ℕ) (x : IndexState Record) → ((g : ℕ) (r : Record) → x ≡ Living g r → record { index = n; generation = g } ≡ e → ⊥)
+      → one_goes n x ≡ x
   other_stays n Retired apart = refl
   other_stays n (Free g) apart = refl
   other_stays n (Living g r) apart = grind (arith, common_steps, keeps_all, entity_eq_is)
@@ -286,7 +290,8 @@ module _ (e : Entity) (goes : Id → Bool) where
   abbrev kept_at : List (IndexState Record) → ℕ → Option Record → List (IndexState Record)
   kept_at xs k o = (change_kept (record { limit = 0; indices = xs }) (record { index = k; generation = e.generation }) (keeping goes) o).indices
 
-  one_left : (n k : ℕ) (xs : List (IndexState Record)) → e.index ≡ n + k → map_from one_goes n xs ≡ kept_at xs k (record_in (slice_get xs k) e.generation)
+  one_left : (n k : ℕ) (xs : List (IndexState Record)) → e.index ≡ n + k
+      → map_from one_goes n xs ≡ kept_at xs k (record_in (slice_get xs k) e.generation)
   unfolding generation_in
   one_left n k [] at = refl
   one_left n zero (Retired ∷ xs) at = let rest = past_stays (n + 1) xs (omega arith) in λ i. Retired ∷ rest i
@@ -324,10 +329,12 @@ without_one w e goes = ap (λ xs. record w { indices = xs }) (one_left e goes 0 
     same (Some r) = refl
 
 -- what goes from all goes from each record
-from_each : (goes : Id → Bool) (n : ℕ) (xs : List (IndexState Record)) → map_from (left_at nobody (λ x j. goes j)) n xs ≡ map (map_state (keeping goes)) xs
+from_each : (goes : Id → Bool) (n : ℕ) (xs : List (IndexState Record))
+    → map_from (left_at nobody (λ x j. goes j)) n xs ≡ map (map_state (keeping goes)) xs
 from_each goes n [] = refl
 from_each goes n (Living g r ∷ xs) = ap (λ ys. Living g (keeping goes r) ∷ ys) (from_each goes (n + 1) xs)
 from_each goes n (x ∷ xs) = ap (λ ys. x ∷ ys) (from_each goes (n + 1) xs)
 
-pub without_from_all : (w : WorldState) (goes : Id → Bool) → without w nobody (λ x j. goes j) ≡ record w { indices = map (map_state (keeping goes)) w.indices }
+pub without_from_all : (w : WorldState) (goes : Id → Bool) → without w nobody (λ x j. goes j)
+    ≡ record w { indices = map (map_state (keeping goes)) w.indices }
 without_from_all w goes = ap (λ xs. record w { indices = xs }) (from_each goes 0 w.indices)

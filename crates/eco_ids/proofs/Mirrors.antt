@@ -31,7 +31,8 @@ pub record IsCalm (w : WorldState) : Type 0 where
   pub holder : (r x : Entity) → IsTrue (is_symmetric w r) → IsTrue (has w r (Two WITH x)) → ⊥
   pub target : (r x : Entity) → IsTrue (is_symmetric w r) → IsTrue (has w x (Two WITH r)) → ⊥
 
-pub entry_any : (t : Id → Bool) (i : Id) (v : Value) (es : List (Id × Value)) → IsTrue (t i) → find id_cmp i es ≡ Some v → IsTrue (list_any (λ e. t e.0) es)
+pub entry_any : (t : Id → Bool) (i : Id) (v : Value) (es : List (Id × Value)) → IsTrue (t i) → find id_cmp i es ≡ Some v
+    → IsTrue (list_any (λ e. t e.0) es)
 entry_any t i v [] p h = absurd (none-some v h)
 entry_any t i v (e ∷ es) p h =
     elim (id_eq i e.0) as (λ b. id_eq i e.0 ≡ b → cond b (Some e.1) (find id_cmp i es) ≡ Some v → IsTrue (t e.0 || list_any (λ e. t e.0) es)) [
@@ -110,7 +111,8 @@ module _ (w : WorldState) where
 
 -- ---- what an edition asks is kept
 
-keeps_edition : (w new : WorldState) → new.edition ≡ w.edition → (IsTrue (has_symmetric w.edition) → IsMirrored w → IsMirrored new) → KeepsEdition w.edition w →
+keeps_edition : (w new : WorldState) → new.edition ≡ w.edition → (IsTrue (has_symmetric w.edition) → IsMirrored w → IsMirrored new) →
+    KeepsEdition w.edition w →
     KeepsEdition new.edition new
 keeps_edition w new same go h = subst (λ d. KeepsEdition d new) (sym same) (by w.edition refl h)
   where
@@ -123,7 +125,8 @@ pub lawful_after : {w new : WorldState} → IsLawful w → IsOrderly new → new
 lawful_after {w = w} {new = new} l orderly same go = record { orderly = orderly; edition = keeps_edition w new same go l.edition }
 
 -- where the trait was there before
-pub symmetric_before : (w new : WorldState) (r : Entity) → new.edition ≡ w.edition → (IsTrue (has new r (One SYMMETRIC)) → IsTrue (has w r (One SYMMETRIC))) →
+pub symmetric_before : (w new : WorldState) (r : Entity) → new.edition ≡ w.edition →
+    (IsTrue (has new r (One SYMMETRIC)) → IsTrue (has w r (One SYMMETRIC))) →
     IsTrue (is_symmetric new r) → IsTrue (is_symmetric w r)
 symmetric_before w new r same had h =
     both (has_symmetric w.edition) _ (ap has_symmetric (sym same) ∙ first (has_symmetric new.edition) _ h) (had (second (has_symmetric new.edition) _ h))
@@ -151,7 +154,8 @@ mirror_parts w e i m h = by i (has_symmetric w.edition) h
     by (Two r t) true k = pair r t (is_symmetric w r) refl k
 
 -- where no id comes, nothing clashes
-pub calm_fewer : (w new : WorldState) → new.edition ≡ w.edition → ((x : Entity) (i : Id) → IsTrue (has new x i) → IsTrue (has w x i)) → IsCalm w → IsCalm new
+pub calm_fewer : (w new : WorldState) → new.edition ≡ w.edition → ((x : Entity) (i : Id) → IsTrue (has new x i) → IsTrue (has w x i)) → IsCalm w
+    → IsCalm new
 calm_fewer w new same had c = record {
   exclusive = λ r s h. c.exclusive r (before r s) (had r (One EXCLUSIVE) h);
   acyclic = λ r s h. c.acyclic r (before r s) (had r (One ACYCLIC) h);
@@ -163,7 +167,8 @@ calm_fewer w new same had c = record {
     before r = symmetric_before w new r same (had r (One SYMMETRIC))
 
 -- where who has what stays, the mirrors do
-pub mirrored_same : (w new : WorldState) → new.edition ≡ w.edition → ((x : Entity) (i : Id) → has new x i ≡ has w x i) → IsMirrored w → IsMirrored new
+pub mirrored_same : (w new : WorldState) → new.edition ≡ w.edition → ((x : Entity) (i : Id) → has new x i ≡ has w x i) → IsMirrored w
+    → IsMirrored new
 mirrored_same w new same equal m = record {
   mirrors = λ r a b s edge. equal b (Two r a) ∙ m.mirrors r a b (symmetric_before w new r same (had r (One SYMMETRIC)) s) (had a (Two r b) edge);
   calm = calm_to new (calm_fewer w new same had (calm_from w m.calm));

@@ -34,7 +34,8 @@ makes_alive_end w e = search (rules, in_world, either, done, refused)
 pub admits_end : (w : WorldState) (n : ℕ) → End (OnEntities (λ v. Admits v n) w)
 admits_end w n = search (rules, in_world, either, done, refused)
 
-pub loses_end : (w : WorldState) (o : Option Refusal) (goes : Entity → Id → Bool) → End (λ r new. MatchOption o (Loses w goes r new) (λ y. Refuses y w r new))
+pub loses_end : (w : WorldState) (o : Option Refusal) (goes : Entity → Id → Bool)
+    → End (λ r new. MatchOption o (Loses w goes r new) (λ y. Refuses y w r new))
 loses_end w o goes = unless w o _ (λ _. done tt (without w nobody (goes_too w goes)))
 
 pub renames_end : (w : WorldState) (e : Entity) (name : Option (List ℕ)) → End (Renames w e name)

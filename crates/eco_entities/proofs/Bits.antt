@@ -13,7 +13,8 @@ use Rattle.eco_entities.specs.Words.{has_bit, with_bit, without_bit, range_mask}
 
 -- a bit is set where the number's bit is 1
 -- equal words have equal bits
-pub has_bit_same : (us ws : List ℕ) (k : ℕ) → bit_at (get_or us (k / 64) 0) (k % 64) ≡ bit_at (get_or ws (k / 64) 0) (k % 64) → has_bit us k ≡ has_bit ws k
+pub has_bit_same : (us ws : List ℕ) (k : ℕ) → bit_at (get_or us (k / 64) 0) (k % 64) ≡ bit_at (get_or ws (k / 64) 0) (k % 64)
+    → has_bit us k ≡ has_bit ws k
 unfolding has_bit
 has_bit_same us ws k e = ap (λ n. n == 1) e
 
@@ -43,7 +44,8 @@ unfolding has_bit
 word_of_bit ws k e = pos_of_bit _ (k % 64) (eqb-true _ _ e)
 
 -- another bit, where one word changes and keeps that one
-other_bit : (ws : List ℕ) (k j x : ℕ) → j ≢ k → k / 64 < length ws → (j % 64 ≢ k % 64 → bit_at x (j % 64) ≡ bit_at (get_or ws (k / 64) 0) (j % 64)) →
+other_bit : (ws : List ℕ) (k j x : ℕ) → j ≢ k → k / 64 < length ws →
+    (j % 64 ≢ k % 64 → bit_at x (j % 64) ≡ bit_at (get_or ws (k / 64) 0) (j % 64)) →
     has_bit (set ws (k / 64) x) j ≡ has_bit ws j
 other_bit ws k j x ne l kept =
     elim (cases_eq (j / 64) (k / 64)) [
@@ -102,7 +104,8 @@ word-without_bit_other ws k w ne = rw get_or-set_other
 
 -- one word changes below, and its bit above as it does
 summarizes_at : (lower lower' upper upper' : List ℕ) (k : ℕ) → Summarizes lower upper → has_bit upper' k ≡ nat_lt 0 (get_or lower' k 0)
-    → ((w : ℕ) → w ≢ k → has_bit upper' w ≡ has_bit upper w) → ((w : ℕ) → w ≢ k → get_or lower' w 0 ≡ get_or lower w 0) → Summarizes lower' upper'
+    → ((w : ℕ) → w ≢ k → has_bit upper' w ≡ has_bit upper w) → ((w : ℕ) → w ≢ k → get_or lower' w 0 ≡ get_or lower w 0)
+    → Summarizes lower' upper'
 summarizes_at lower lower' upper upper' k s here bits words = record {
   exact = λ w. elim (cases_eq w k) [
     | inl e ↦ rw e here
@@ -119,7 +122,8 @@ summarizes-with_bit lower upper k s l u =
     (λ w apart. has_bit-with_bit_other upper (k / 64) w apart u) (word-with_bit_other lower k)
 
 -- the last bit of a word is cleared above too
-pub summarizes_emptied : (lower upper : List ℕ) (k : ℕ) → Summarizes lower upper → get_or (without_bit lower k) (k / 64) 0 ≡ 0 → k / 64 / 64 < length upper →
+pub summarizes_emptied : (lower upper : List ℕ) (k : ℕ) → Summarizes lower upper → get_or (without_bit lower k) (k / 64) 0 ≡ 0 →
+    k / 64 / 64 < length upper →
     Summarizes (without_bit lower k) (without_bit upper (k / 64))
 summarizes_emptied lower upper k s z u =
     summarizes_at lower _ upper _ (k / 64) s (has_bit-without_bit_same upper (k / 64) u ∙ ap (nat_lt 0) (sym z))
@@ -131,7 +135,8 @@ unfolding without_bit
 word-without_bit_le ws k l = rw get_or-set_same (and_le_l _ _)
 
 -- a word that keeps a bit stays marked
-pub summarizes_kept : (lower upper : List ℕ) (k : ℕ) → Summarizes lower upper → (get_or (without_bit lower k) (k / 64) 0 ≡ 0 → ⊥) → k / 64 < length lower →
+pub summarizes_kept : (lower upper : List ℕ) (k : ℕ) → Summarizes lower upper → (get_or (without_bit lower k) (k / 64) 0 ≡ 0 → ⊥) →
+    k / 64 < length lower →
     Summarizes (without_bit lower k) upper
 summarizes_kept lower upper k s ne l =
     let new : 0 < get_or (without_bit lower k) (k / 64) 0 = omega (arith, ne) in
@@ -140,7 +145,8 @@ summarizes_kept lower upper k s ne l =
 
 -- the lowest bit of the first word that has any
 
-pub lowest_of_first : (ws : List ℕ) (at : ℕ) → IsFirstWord ws at → get_or ws at 0 < 2 ^ 64 → IsLowestBit ws (at * 64 + trailing_zeros w64 (get_or ws at 0))
+pub lowest_of_first : (ws : List ℕ) (at : ℕ) → IsFirstWord ws at → get_or ws at 0 < 2 ^ 64
+    → IsLowestBit ws (at * 64 + trailing_zeros w64 (get_or ws at 0))
 lowest_of_first ws at f fits =
     let found : (trailing_zeros w64 (get_or ws at 0) < 64) × (bit_at (get_or ws at 0) (trailing_zeros w64 (get_or ws at 0)) ≡ 1)
     × ((i : ℕ) → i < trailing_zeros w64 (get_or ws at 0) → bit_at (get_or ws at 0) i ≡ 0) = bit_at-trailing_zeros w64 (get_or ws at 0) f.marked fits in
@@ -214,7 +220,8 @@ word_filled from to w old new f l after within =
     rw word at set
 
 -- a range set below is a range set above
-pub summarizes_filled : (from to up_to : ℕ) (lower lower' upper upper' : List ℕ) → Summarizes lower upper → from < to → up_to ≡ to / 64 + min 1 (to % 64) →
+pub summarizes_filled : (from to up_to : ℕ) (lower lower' upper upper' : List ℕ) → Summarizes lower upper → from < to →
+    up_to ≡ to / 64 + min 1 (to % 64) →
     FillsBits from to lower lower' → FillsBits (from / 64) up_to upper upper' → Summarizes lower' upper'
 summarizes_filled from to up_to lower lower' upper upper' s l up f g = record {
   exact = λ w. elim (cases_lt w (from / 64)) [
@@ -243,10 +250,12 @@ get_or-zeros (x ∷ ws) n (suc w) = get_or-zeros ws n w
 pub has_bit-appended : (n : ℕ) (old new : List ℕ) (k : ℕ) → new ≡ old ++ replicate n 0 → has_bit new k ≡ has_bit old k
 has_bit-appended n old new k a = has_bit_word new old k (rw a (get_or-zeros old n (k / 64)))
 
-pub summarizes-appended_above : (n : ℕ) (lower upper upper' : List ℕ) → Summarizes lower upper → upper' ≡ upper ++ replicate n 0 → Summarizes lower upper'
+pub summarizes-appended_above : (n : ℕ) (lower upper upper' : List ℕ) → Summarizes lower upper → upper' ≡ upper ++ replicate n 0
+    → Summarizes lower upper'
 summarizes-appended_above n lower upper upper' s a = record { exact = λ w. has_bit-appended n upper upper' w a ∙ s.exact w }
 
-pub summarizes-appended_below : (n : ℕ) (lower lower' upper : List ℕ) → Summarizes lower upper → lower' ≡ lower ++ replicate n 0 → Summarizes lower' upper
+pub summarizes-appended_below : (n : ℕ) (lower lower' upper : List ℕ) → Summarizes lower upper → lower' ≡ lower ++ replicate n 0
+    → Summarizes lower' upper
 summarizes-appended_below n lower lower' upper s a = record {
   exact = λ w. s.exact w ∙ ap (nat_lt 0) (sym (ap (λ ws. get_or ws w 0) a ∙ get_or-zeros lower n w));
 }
@@ -265,7 +274,8 @@ within_of_word ws w pos = grind (arith, common_steps, cases_lt, get_or_past)
 
 -- the first word that has a bit, where the words are counted from n
 abbrev FirstFrom : ℕ → List ℕ → Option ℕ → Type 0
-FirstFrom n ws r = MatchOption r ((k : ℕ) → get_or ws k 0 ≡ 0) (λ p. (n ≤ p) × (0 < get_or ws (p - n) 0) × ((k : ℕ) → k < p - n → get_or ws k 0 ≡ 0))
+FirstFrom n ws r = MatchOption r ((k : ℕ) → get_or ws k 0 ≡ 0)
+    (λ p. (n ≤ p) × (0 < get_or ws (p - n) 0) × ((k : ℕ) → k < p - n → get_or ws k 0 ≡ 0))
 
 zeros_after : (x : ℕ) (ws : List ℕ) (k : ℕ) → x ≡ 0 → ((j : ℕ) → j < k → get_or ws j 0 ≡ 0) → get_or (x ∷ ws) k 0 ≡ 0
 zeros_after x ws zero z below = z
@@ -289,5 +299,6 @@ first_is : (ws : List ℕ) (r : Option ℕ) → FirstFrom 0 ws r → MatchOption
 first_is ws None f = f
 first_is ws (Some p) f = let e : p - 0 ≡ p = omega arith in record { marked = rw e at f.1; before = rw e at f.2 }
 
-pub first_word_or_none : (ws : List ℕ) (r : Option ℕ) → r ≡ position_from (λ w. nat_lt 0 w) 0 ws → MatchOption r ((k : ℕ) → get_or ws k 0 ≡ 0) (IsFirstWord ws)
+pub first_word_or_none : (ws : List ℕ) (r : Option ℕ) → r ≡ position_from (λ w. nat_lt 0 w) 0 ws
+    → MatchOption r ((k : ℕ) → get_or ws k 0 ≡ 0) (IsFirstWord ws)
 first_word_or_none ws r e = first_is ws r (rw e (first_from 0 ws))

@@ -11,7 +11,8 @@ module _ (P : Indexed Registration → Indexed Registration → Type 0) (stays :
     (admits : (w : Indexed Registration) (n : ℕ) → P w (admitted n w))
     (settles : (w : Indexed Registration) (x : Entity) (r : Registration) → is_free_at w x ≡ true → P w (with_record w x r))
     (dies : (w : Indexed Registration) (x : Entity) → is_alive w x ≡ true → P w (with_death w x))
-    (changes : (w : Indexed Registration) (x : Entity) (r new : Registration) → record_of w x ≡ Some r → new.arity ≡ r.arity → P w (with_record w x new)) where
+    (changes : (w : Indexed Registration) (x : Entity) (r new : Registration) → record_of w x ≡ Some r → new.arity ≡ r.arity
+    → P w (with_record w x new)) where
   in_room : (w : Indexed Registration) (x : Entity) → P w (with_room w x)
   in_room w x = elim (cases_Bool (nat_lt x.index (length w.indices))) [
     | inl known ↦ rw known (stays w)

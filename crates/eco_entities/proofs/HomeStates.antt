@@ -19,7 +19,8 @@ home_living w i g r at =
     ∙ ap (λ o. home_of i g (option_and_then (λ x. x.place) (record_in o g))) at
     ∙ ap (λ b. home_of i g (option_and_then (λ x. x.place) (cond b (Some r) None))) ((Decides-eqb g g).1 refl)
 
-module _ (limit : ℕ) (label : Names) (slots : List Slot) (w : Indexed Registration) (view : Shows limit label slots w) (i : ℕ) (within : i < length w.indices)
+module _ (limit : ℕ) (label : Names) (slots : List Slot) (w : Indexed Registration) (view : Shows limit label slots w) (i : ℕ)
+    (within : i < length w.indices)
   where
     pub slot_within : i < length slots
     slot_within = rw (← length-states label slots) (rw (← view) at within)

@@ -49,7 +49,8 @@ record-replaced {A} w e r alive =
     record { here = c.here ∙ record_here e.generation r; others = c.others }
 
 -- more free indices
-record_appended : {A : Type 0} (xs : List (IndexState A)) (n i g : ℕ) → record_in (slice_get (xs ++ replicate n (Free 0)) i) g ≡ record_in (slice_get xs i) g
+record_appended : {A : Type 0} (xs : List (IndexState A)) (n i g : ℕ)
+    → record_in (slice_get (xs ++ replicate n (Free 0)) i) g ≡ record_in (slice_get xs i) g
 record_appended [] zero i g = refl
 record_appended [] (suc n) zero g = refl
 record_appended [] (suc n) (suc i) g = record_appended [] n i g
@@ -113,7 +114,8 @@ next_has_room {A} w e h =
     ]
 
 -- the next entity comes to live, who didn't before
-pub record-new : {A : Type 0} (w : Indexed A) (e : Entity) (r : A) → next_entity w ≡ Some e → ChangesAt (record_of w) (record_of (with_new w e r)) e (Some r)
+pub record-new : {A : Type 0} (w : Indexed A) (e : Entity) (r : A) → next_entity w ≡ Some e
+    → ChangesAt (record_of w) (record_of (with_new w e r)) e (Some r)
 record-new {A} w e r h =
     let room : IsRoom w e = next_has_room w e h in
     let c : ChangesAt (record_of (with_room w e)) (record_of (with_record (with_room w e) e r)) e (Some r) = record-settled (with_room w e) e r room.free in

@@ -24,13 +24,15 @@ unfolding bits_below
 get_or-bits_below n ws k d l = get_or-map-range_with_len (has_bit ws) 0 n k k d l (omega arith)
 
 -- flags are equal where each is
-pub flags_are : (n : ℕ) (ws : List ℕ) (xs : List Bool) → length xs ≡ n → ((k : ℕ) (d : Bool) → k < n → has_bit ws k ≡ get_or xs k d) → bits_below n ws ≡ xs
+pub flags_are : (n : ℕ) (ws : List ℕ) (xs : List Bool) → length xs ≡ n → ((k : ℕ) (d : Bool) → k < n → has_bit ws k ≡ get_or xs k d)
+    → bits_below n ws ≡ xs
 flags_are n ws xs e same =
     same_lists _ _ (length-bits_below n ws ∙ sym e)
     (λ k d l. let below : k < n = rw length-bits_below at l in get_or-bits_below n ws k d below ∙ same k d below)
 
 -- one flag changes as its bit does
-flags_set : (n : ℕ) (ws new : List ℕ) (i : ℕ) (b : Bool) → i < n → has_bit new i ≡ b → ((k : ℕ) → k ≢ i → has_bit new k ≡ has_bit ws k) →
+flags_set : (n : ℕ) (ws new : List ℕ) (i : ℕ) (b : Bool) → i < n → has_bit new i ≡ b →
+    ((k : ℕ) → k ≢ i → has_bit new k ≡ has_bit ws k) →
     bits_below n new ≡ slice_set (bits_below n ws) i b
 flags_set n ws new i b l here others =
     flags_are n _ _ (length-set _ i b ∙ length-bits_below n ws)
@@ -41,11 +43,13 @@ flags_set n ws new i b l here others =
       | inr ne ↦ others k ne ∙ rw (get_or-set_other) (sym (get_or-bits_below n ws k d within))
     ])
 
-pub flags-with_bit : (n : ℕ) (ws : List ℕ) (i : ℕ) → i < n → i / 64 < length ws → bits_below n (with_bit ws i) ≡ slice_set (bits_below n ws) i true
+pub flags-with_bit : (n : ℕ) (ws : List ℕ) (i : ℕ) → i < n → i / 64 < length ws
+    → bits_below n (with_bit ws i) ≡ slice_set (bits_below n ws) i true
 flags-with_bit n ws i l room =
     flags_set n ws (with_bit ws i) i true l (has_bit-with_bit_same ws i room) (λ k ne. has_bit-with_bit_other ws i k ne room)
 
-pub flags-without_bit : (n : ℕ) (ws : List ℕ) (i : ℕ) → i < n → i / 64 < length ws → bits_below n (without_bit ws i) ≡ slice_set (bits_below n ws) i false
+pub flags-without_bit : (n : ℕ) (ws : List ℕ) (i : ℕ) → i < n → i / 64 < length ws
+    → bits_below n (without_bit ws i) ≡ slice_set (bits_below n ws) i false
 flags-without_bit n ws i l room =
     flags_set n ws (without_bit ws i) i false l (has_bit-without_bit_same ws i room) (λ k ne. has_bit-without_bit_other ws i k ne room)
 
@@ -159,7 +163,8 @@ levelled-fill len from indices words groups indices' words' groups' v l f g h = 
 pub length-appended : (n : ℕ) (old new : List ℕ) → new ≡ old ++ replicate n 0 → length new ≡ length old + n
 length-appended n old new a = rw (a, length-append, length-replicate) refl
 
-pub levelled_groups : (len n : ℕ) (indices words groups groups' : List ℕ) → IsLevelled len indices words groups → groups' ≡ groups ++ replicate n 0 →
+pub levelled_groups : (len n : ℕ) (indices words groups groups' : List ℕ) → IsLevelled len indices words groups →
+    groups' ≡ groups ++ replicate n 0 →
     length groups' < 2 ^ 32 → IsLevelled len indices words groups'
 levelled_groups len n indices words groups groups' v a b = grind (arith, common_steps, length-appended, summarizes-appended_above)
 
@@ -167,7 +172,8 @@ pub levelled_words : (len n : ℕ) (indices words words' groups : List ℕ) → 
     length words' ≤ 64 * length groups → length words' < 2 ^ 32 → IsLevelled len indices words' groups
 levelled_words len n indices words words' groups v a room b = search (rules, length-appended, summarizes-appended_above, summarizes-appended_below)
 
-pub levelled_indices : (len len' n : ℕ) (indices indices' words groups : List ℕ) → IsLevelled len indices words groups → len ≤ len' → len' < 2 ^ 32 →
+pub levelled_indices : (len len' n : ℕ) (indices indices' words groups : List ℕ) → IsLevelled len indices words groups → len ≤ len' →
+    len' < 2 ^ 32 →
     len' ≤ 64 * length indices' → indices' ≡ indices ++ replicate n 0 → length indices' ≤ 64 * length words → length indices' < 2 ^ 32 →
     IsLevelled len' indices' words groups
 levelled_indices len len' n indices indices' words groups v more bounded enough a room b = record {

@@ -13,7 +13,8 @@ use Rattle.eco_entities.proofs.Shown.{states-copies, states-push, states-set, st
 use Rattle.eco_entities.proofs.States.{alive_known, free_known, changed_states, next_is}
 
 -- one state changes, and its mark with it
-pub marked-set : (limit : ℕ) (xs : List (IndexState Registration)) (marks marks' : List Bool) (i : ℕ) (x : IndexState Registration) → IsMarked limit xs marks →
+pub marked-set : (limit : ℕ) (xs : List (IndexState Registration)) (marks marks' : List Bool) (i : ℕ) (x : IndexState Registration) →
+    IsMarked limit xs marks →
     i < length xs → GenerationFits (Some x) → marks' ≡ set marks i (is_free x) → IsMarked limit (set xs i x) marks'
 marked-set limit xs marks marks' i x m l fits e = search (rules, length-set, map-set, cases_eq, slice_get-set_same, slice_get-set_other)
 
@@ -36,7 +37,8 @@ lowest_marked n (Free g ∷ xs) = let here : n - n ≡ 0 = omega arith in (omega
 lowest_marked n (Living g r ∷ xs) = lowest_later n (Living g r) xs _ refl (lowest_marked (n + 1) xs)
 
 -- a state that stays as free as it was keeps its mark
-pub marked_kept : (limit : ℕ) (xs : List (IndexState Registration)) (marks : List Bool) (i : ℕ) (x y : IndexState Registration) → IsMarked limit xs marks →
+pub marked_kept : (limit : ℕ) (xs : List (IndexState Registration)) (marks : List Bool) (i : ℕ) (x y : IndexState Registration) →
+    IsMarked limit xs marks →
     slice_get xs i ≡ Some y → is_free x ≡ is_free y → GenerationFits (Some x) → IsMarked limit (set xs i x) marks
 marked_kept limit xs marks i x y m here same fits =
     let within : i < length xs = slice_get_within xs i y here in
@@ -48,7 +50,8 @@ pub fits_at : (limit : ℕ) (xs : List (IndexState Registration)) (marks : List 
     slice_get xs i ≡ Some y → GenerationFits (Some y)
 fits_at limit xs marks i y m here = rw here at (m.fit i)
 
-pub fits-map_state : (change : Registration → Registration) (y : IndexState Registration) → GenerationFits (Some y) → GenerationFits (Some (map_state change y))
+pub fits-map_state : (change : Registration → Registration) (y : IndexState Registration) → GenerationFits (Some y)
+    → GenerationFits (Some (map_state change y))
 fits-map_state change y f = grind (arith, common_steps)
 
 pub is_free-map_state : (change : Registration → Registration) (y : IndexState Registration) → is_free (map_state change y) ≡ is_free y
@@ -62,12 +65,14 @@ fits-raised A g = grind (arith, common_steps)
 
 -- who is made next
 
-lowest_unmarked : (limit : ℕ) (xs : List (IndexState Registration)) (marks : List Bool) → IsMarked limit xs marks → None ≡ position_from (λ b. b) 0 marks →
+lowest_unmarked : (limit : ℕ) (xs : List (IndexState Registration)) (marks : List Bool) → IsMarked limit xs marks →
+    None ≡ position_from (λ b. b) 0 marks →
     lowest_free 0 xs ≡ None
 lowest_unmarked limit xs marks m none = grind (arith, common_steps, lowest_marked)
 
 lowest_mark : (limit : ℕ) (xs : List (IndexState Registration)) (marks : List Bool) (k : ℕ) → IsMarked limit xs marks →
-    Some k ≡ position_from (λ b. b) 0 marks → (k < length xs) × (lowest_free 0 xs ≡ Some (record { index = k; generation = next_generation (slice_get xs k) }))
+    Some k ≡ position_from (λ b. b) 0 marks → (k < length xs)
+    × (lowest_free 0 xs ≡ Some (record { index = k; generation = next_generation (slice_get xs k) }))
 lowest_mark limit xs marks k m some =
     let found : LowestFrom 0 xs (position_from (λ b. b) 0 marks) = rw m.marked (lowest_marked 0 xs) in
     let here : LowestFrom 0 xs (Some k) = rw (← some) at found in
@@ -92,7 +97,8 @@ next_unknown limit xs low = ap (λ o. option_or o (first_unknown limit (length x
 
 -- more free indices at the end
 
-pub fits-append : {A : Type 0} (xs ys : List (IndexState A)) → ((i : ℕ) → GenerationFits (slice_get xs i)) → ((i : ℕ) → GenerationFits (slice_get ys i))
+pub fits-append : {A : Type 0} (xs ys : List (IndexState A)) → ((i : ℕ) → GenerationFits (slice_get xs i))
+    → ((i : ℕ) → GenerationFits (slice_get ys i))
     → (i : ℕ) →
     GenerationFits (slice_get (xs ++ ys) i)
 fits-append [] ys f g i = g i
@@ -256,7 +262,8 @@ module _ (kept : Inside) (w : Indexed Registration) (m : IsMarked kept.limit (st
   room_inside n room = grind (arith, common_steps, items, length_shown)
 
   -- ---- the next entity's slot, at its index or after the last one
-  next_within : (e : Entity) → next_entity w ≡ Some e → (e.index ≤ length (items kept)) × (length (items kept) ≤ e.index → length (items kept) + 1 ≤ kept.limit)
+  next_within : (e : Entity) → next_entity w ≡ Some e → (e.index ≤ length (items kept))
+      × (length (items kept) ≤ e.index → length (items kept) + 1 ≤ kept.limit)
   next_within e next =
       let known : length w.indices ≡ length (items kept) = length_shown in
       let bound : kept.limit ≡ w.limit = ap (λ (v : Indexed Registration). v.limit) view in
@@ -274,7 +281,8 @@ module _ (kept : Inside) (w : Indexed Registration) (m : IsMarked kept.limit (st
   next_slot e next = grind (arith, common_steps, labels, items, length-states, next_within, marks_as_slots)
 
   -- another label there, and still nobody
-  pub next_unlabelled : (e : Entity) (label' : Names) → AgreeBeside e.index (labels kept) label' → next_entity w ≡ Some e → states label' (items kept) ≡ seen
+  pub next_unlabelled : (e : Entity) (label' : Names) → AgreeBeside e.index (labels kept) label' → next_entity w ≡ Some e
+      → states label' (items kept) ≡ seen
   next_unlabelled e label' apart next = states_beside (labels kept) label' (items kept) e.index apart (λ s there. elim (next_is w e next) [
     | inl free ↦
         let shown : Some (state_of (labels kept e.index) s) ≡ Some (Free e.generation) =
@@ -301,7 +309,8 @@ module _ (kept : Inside) (w : Indexed Registration) (m : IsMarked kept.limit (st
       elim (cases_lt e.index (length (items kept))) [
         | inl l ↦
             let slots_are : slots' ≡ set (items kept) e.index new = put ∙ cond-true (nat_lt e.index (length (items kept))) _ _ (lt-ltb _ _ l) in
-            let marks_are : marks' ≡ set kept.free e.index false = unmarked ∙ cond-true (nat_lt e.index (length kept.free)) _ _ (lt-ltb _ _ (omega arith)) in
+            let marks_are : marks' ≡ set kept.free e.index false = unmarked
+            ∙ cond-true (nat_lt e.index (length kept.free)) _ _ (lt-ltb _ _ (omega arith)) in
             let shown : states label' slots' ≡ set seen e.index (Living e.generation r) =
             ap (states label') slots_are ∙ (states-set (labels kept) label' (items kept) e.index new apart ∙ ap (set seen e.index) is) in (
               rw shown (marked-set kept.limit seen kept.free marks' e.index (Living e.generation r) m (omega arith) small marks_are),

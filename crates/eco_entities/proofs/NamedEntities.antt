@@ -29,19 +29,22 @@ NoNamedEntity xs name = (i g : ℕ) (r : Registration) → record_in (slice_get 
 
 -- this one has it
 abbrev IsNamedEntity : ℕ → List (IndexState Registration) → List ℕ → Entity × Registration → Type 0
-IsNamedEntity n xs name q = (n ≤ q.0.index) × (record_in (slice_get xs (q.0.index - n)) q.0.generation ≡ Some q.1) × (is_called name (given_name q.1) ≡ true)
+IsNamedEntity n xs name q = (n ≤ q.0.index) × (record_in (slice_get xs (q.0.index - n)) q.0.generation ≡ Some q.1)
+    × (is_called name (given_name q.1) ≡ true)
 
 abbrev Found : ℕ → List (IndexState Registration) → List ℕ → Option (Entity × Registration) → Type 0
 Found n xs name o = MatchOption o (NoNamedEntity xs name) (IsNamedEntity n xs name)
 
 none_after : (x : IndexState Registration) (xs : List (IndexState Registration)) (name : List ℕ) →
-    ((g : ℕ) (r : Registration) → record_in (Some x) g ≡ Some r → is_called name (given_name r) ≡ false) → NoNamedEntity xs name → NoNamedEntity (x ∷ xs) name
+    ((g : ℕ) (r : Registration) → record_in (Some x) g ≡ Some r → is_called name (given_name r) ≡ false) → NoNamedEntity xs name →
+    NoNamedEntity (x ∷ xs) name
 none_after x xs name here rest zero g r h = here g r h
 none_after x xs name here rest (suc i) g r h = rest i g r h
 
 -- one state in front, at which nobody has the name
 found_later : (n : ℕ) (x : IndexState Registration) (xs : List (IndexState Registration)) (name : List ℕ) (o : Option (Entity × Registration)) →
-    ((g : ℕ) (r : Registration) → record_in (Some x) g ≡ Some r → is_called name (given_name r) ≡ false) → Found (n + 1) xs name o → Found n (x ∷ xs) name o
+    ((g : ℕ) (r : Registration) → record_in (Some x) g ≡ Some r → is_called name (given_name r) ≡ false) → Found (n + 1) xs name o →
+    Found n (x ∷ xs) name o
 found_later n x xs name None here rest = none_after x xs name here rest
 found_later n x xs name (Some q) here rest = grind (arith, common_steps)
 
@@ -49,7 +52,8 @@ living_one : (g f : ℕ) (r q : Registration) → record_in (Some (Living g r)) 
 living_one g f r q h = grind (arith, common_steps, cases_eq, record_here, none-some, ne_eqb)
 
 found_living : (n g : ℕ) (r : Registration) (xs : List (IndexState Registration)) (name : List ℕ) (b : Bool) (o : Option (Entity × Registration)) →
-    is_called name (given_name r) ≡ b → Found (n + 1) xs name o → Found n (Living g r ∷ xs) name (cond b (Some (record { index = n; generation = g }, r)) o)
+    is_called name (given_name r) ≡ b → Found (n + 1) xs name o →
+    Found n (Living g r ∷ xs) name (cond b (Some (record { index = n; generation = g }, r)) o)
 found_living n g r xs name true o e rest = grind (arith, common_steps, record_here)
 found_living n g r xs name false o e rest = grind (arith, common_steps, found_later, same_Some, living_one)
 
@@ -82,6 +86,7 @@ pub registry_named_entity : (found : List ℕ → Option Entity) (w : Indexed Re
 registry_named_entity found w name r = registry_finds found w name _ r (found_from 0 w.indices name) (found name) refl
 
 -- in an index that is shown
-pub registry_shown : (found : List ℕ → Option Entity) (v w : Indexed Registration) (name : List ℕ) → IsRegistry found (own_name given_name v) → v ≡ w
+pub registry_shown : (found : List ℕ → Option Entity) (v w : Indexed Registration) (name : List ℕ) → IsRegistry found (own_name given_name v)
+    → v ≡ w
     → found name ≡ named_entity given_name w name
 registry_shown found v w name r shown = registry_named_entity found v name r ∙ ap (λ (x : Indexed Registration). named_entity given_name x name) shown

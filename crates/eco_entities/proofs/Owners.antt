@@ -15,7 +15,8 @@ pub names_follow : (w new : Indexed Registration) (e : Entity) (o : Option Regis
 names_follow w new e o c = record { here = ap (option_and_then given_name) c.here; others = λ j ne. ap (option_and_then given_name) (c.others j ne) }
 
 -- where what is kept stays, so do the names
-pub names_stay : (w new : Indexed Registration) → KeepsAnswers (record_of w) (record_of new) → KeepsAnswers (own_name given_name w) (own_name given_name new)
+pub names_stay : (w new : Indexed Registration) → KeepsAnswers (record_of w) (record_of new)
+    → KeepsAnswers (own_name given_name w) (own_name given_name new)
 names_stay w new k = record { all = λ e. ap (option_and_then given_name) (k.all e) }
 
 -- a newcomer has its name, and the others keep theirs
@@ -37,7 +38,8 @@ pub own_of_next : (w : Indexed Registration) (e : Entity) → next_entity w ≡ 
 own_of_next w e next = ap (option_and_then given_name) (record_of_next w e next)
 
 -- the dead have no name, and the others keep theirs
-pub own-died : (w : Indexed Registration) (e : Entity) → is_alive w e ≡ true → ChangesAt (own_name given_name w) (own_name given_name (with_death w e)) e None
+pub own-died : (w : Indexed Registration) (e : Entity) → is_alive w e ≡ true
+    → ChangesAt (own_name given_name w) (own_name given_name (with_death w e)) e None
 own-died w e alive = names_follow w (with_death w e) e None (record-died w e alive)
 
 -- a change of what is kept of one entity

@@ -10,7 +10,8 @@ holds b h = grind arith
 
 module _ {X : Type 0} where
   -- the entry that is read at the index's place
-  pub entry_read : (k : ℕ) (es : List (ℕ × X)) (n : ℕ) (e : ℕ × X) → IsEntry k es n → e ≡ get_or es n e → (e.0 ≡ k) × (Some e.1 ≡ find nat_cmp k es)
+  pub entry_read : (k : ℕ) (es : List (ℕ × X)) (n : ℕ) (e : ℕ × X) → IsEntry k es n → e ≡ get_or es n e
+      → (e.0 ≡ k) × (Some e.1 ≡ find nat_cmp k es)
   entry_read k es n e h is = by (slice_get es n) refl h.there h.found
     where
       by : (o : Option (ℕ × X)) → slice_get es n ≡ o → option_map (λ f. f.0) o ≡ Some k → option_map (λ f. f.1) o ≡ find nat_cmp k es

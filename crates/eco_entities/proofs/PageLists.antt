@@ -41,7 +41,8 @@ module _ {P K V : Type 0} (at : K → ℕ) (read : P → K → Option V) where
       ap (λ m. option_and_then (λ q. read q k) (slice_get pages m)) (sym is) ∙ ap (option_and_then (λ q. read q k)) (slice_get_past pages n past)
 
   -- copies of all pages
-  pub values_copied : (C : P → P → Type 0) → ((p q : P) → C p q → KeepsAnswers (read p) (read q)) → (pages pages' : List P) → AllZip C pages pages'
+  pub values_copied : (C : P → P → Type 0) → ((p q : P) → C p q → KeepsAnswers (read p) (read q)) → (pages pages' : List P)
+      → AllZip C pages pages'
       → KeepsAnswers (value_at pages) (value_at pages')
   values_copied C kept pages pages' all = record { all = λ k. by k (at k) pages pages' all }
     where

@@ -37,12 +37,14 @@ module _ {found found' : List ℕ → Option Entity} {own own' : Entity → Opti
   }
 
   -- an entity loses its name
-  pub registry_lose : (name : List ℕ) (e : Entity) → IsRegistry found own → own e ≡ Some name → ChangesAt found found' name None → ChangesAt own own' e None →
+  pub registry_lose : (name : List ℕ) (e : Entity) → IsRegistry found own → own e ≡ Some name → ChangesAt found found' name None →
+      ChangesAt own own' e None →
       IsRegistry found' own'
   registry_lose name e r named f o = grind (arith, common_steps, cases_text, none-some, same_Some, cases_entity)
 
   -- an entity without name still has none
-  pub registry_nameless : (e : Entity) → IsRegistry found own → own e ≡ None → KeepsAnswers found found' → ChangesAt own own' e None → IsRegistry found' own'
+  pub registry_nameless : (e : Entity) → IsRegistry found own → own e ≡ None → KeepsAnswers found found' → ChangesAt own own' e None
+      → IsRegistry found' own'
   registry_nameless e r nameless f o = grind (arith, common_steps, registry_same, cases_entity)
 
 -- a name that was given and taken back

@@ -31,7 +31,8 @@ pub renamed_same : (w : Indexed Registration) (e : Entity) (name : List ℕ) →
     changed w e (renamed (Some name)) ≡ w
 renamed_same w e name alive own = grind (arith, common_steps, alive_known, record_at, same_name, set_own)
 
-pub rename_same : (w : Indexed Registration) (e : Entity) (name : List ℕ) → is_alive w e ≡ true → is_name name ≡ true → own_name given_name w e ≡ Some name →
+pub rename_same : (w : Indexed Registration) (e : Entity) (name : List ℕ) → is_alive w e ≡ true → is_name name ≡ true →
+    own_name given_name w e ≡ Some name →
     RenamesWith given_name renamed w e false (Some name) (Ok tt) w
 rename_same w e name alive good own = rw (alive, good, ap (is_called name) own, text_refl name) (refl, sym (renamed_same w e name alive own))
 
@@ -44,7 +45,8 @@ pub unfit_why : (A : Type 0) (w : Indexed Registration) (name : Option (List ℕ
     is_out_of_memory {A = A} (Err why) ≡ false
 unfit_why A w name why h = unfit_whys A _ _ why h
 
-pub checked : (o : Option Refusal) (r : Result (Unit {0}) Refusal) (why : Refusal) → MatchOption o (r ≡ Ok tt) (λ y. r ≡ Err y) → r ≡ Err why → o ≡ Some why
+pub checked : (o : Option Refusal) (r : Result (Unit {0}) Refusal) (why : Refusal) → MatchOption o (r ≡ Ok tt) (λ y. r ≡ Err y) → r ≡ Err why
+    → o ≡ Some why
 checked None r why h e = absurd (let both : Ok tt ≡ Err why = sym h ∙ e in cc)
 checked (Some y) r why h e = let both : Err y ≡ Err why = sym h ∙ e in cc
 

@@ -104,7 +104,8 @@ module _ {X : Type 0} where
       below_at y es n e (and_parts (is_lt (nat_cmp y f.0)) (below_all nat_cmp y es) h).1 there
 
   -- the entry at a place is the index's
-  pub seat_found : (k : ℕ) (es : List (ℕ × X)) (n : ℕ) (e : ℕ × X) → is_sorted nat_cmp es ≡ true → slice_get es n ≡ Some e → e.0 ≡ k → seat k es ≡ Ok n
+  pub seat_found : (k : ℕ) (es : List (ℕ × X)) (n : ℕ) (e : ℕ × X) → is_sorted nat_cmp es ≡ true → slice_get es n ≡ Some e → e.0 ≡ k
+      → seat k es ≡ Ok n
   seat_found k [] n e sorted there is = absurd (none-some e there)
   seat_found k (f ∷ es) zero e sorted there is = rw (equal_is k f.0 (sym is ∙ ap (λ p. p.0) (sym (same_Some f e there)))) refl
   seat_found k (f ∷ es) (suc n) e sorted there is =

@@ -25,7 +25,8 @@ living_in {A} (Some (Living f r)) g h =
     ]
 
 -- the state of a living entity's index
-pub alive_known : {A : Type 0} (w : Indexed A) (e : Entity) → is_alive w e ≡ true → (r : A) × (slice_get w.indices e.index ≡ Some (Living e.generation r))
+pub alive_known : {A : Type 0} (w : Indexed A) (e : Entity) → is_alive w e ≡ true
+    → (r : A) × (slice_get w.indices e.index ≡ Some (Living e.generation r))
 alive_known w e h = living_in (slice_get w.indices e.index) e.generation h
 
 -- a change of what is kept of a living entity, as the index itself shows it

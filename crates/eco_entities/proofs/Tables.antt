@@ -29,7 +29,8 @@ is_borne b text h = by (is_key_of text b.key) h
 pub not_borne : (b : Bearer) (text : List ℕ) → is_key_of text b.key ≡ false → borne_by b text ≡ None
 not_borne b text h = ap (λ t. cond t (Some b.entity) None) h
 
-pub among_read : (buckets : List BucketState) (bearers : List Bearer) (text : List ℕ) (n : ℕ) (b : BucketState) → n ≡ bucket_of (hash_of text) (length buckets)
+pub among_read : (buckets : List BucketState) (bearers : List Bearer) (text : List ℕ) (n : ℕ) (b : BucketState)
+    → n ≡ bucket_of (hash_of text) (length buckets)
     → slice_get buckets n ≡ Some b → found_among (buckets, bearers) text ≡ found_in bearers b text
 among_read buckets bearers text n b is there = ap (option_and_then (λ b. found_in bearers b text)) (ap (slice_get buckets) (sym is) ∙ there)
 
@@ -167,7 +168,8 @@ nil_right [] = refl
 nil_right (x ∷ xs) = ap (λ ys. x ∷ ys) (nil_right xs)
 
 -- no buckets
-pub none_among : (buckets : List BucketState) (bearers : List Bearer) (text : List ℕ) → length buckets ≡ 0 → found_among (buckets, bearers) text ≡ None
+pub none_among : (buckets : List BucketState) (bearers : List Bearer) (text : List ℕ) → length buckets ≡ 0
+    → found_among (buckets, bearers) text ≡ None
 none_among [] bearers text h = refl
 none_among (b ∷ bs) bearers text h = absurd (omega (arith, h))
 

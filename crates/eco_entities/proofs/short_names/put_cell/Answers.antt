@@ -5,20 +5,14 @@ use Rattle.eco_entities.proofs.short_names.put_cell.Goals as goal
 
 pub returns-clause-table : goal.returns-clause-table
 returns-clause-table c =
-    let buckets = c.args.buckets.now.items in
-    let n = c.bucket-place.result in
-    let old = c.index_mut.result.now in
     let counted = c.len.ensures ∙ c.args.buckets.now.ok.0 in
-    let there = read_bucket buckets n c.len.result old c.bucket-place.ensures.within counted c.index_mut.ensures.value in
-    on_ok c.take_cell.result (cell_table buckets c.args.bearers.now n old c.take_cell.new.self c.args.cell c.requires.table there c.take_cell.ensures.point
+    let there = read_bucket _ _ _ _ c.bucket-place.ensures.within counted c.index_mut.ensures.value in
+    on_ok c.take_cell.result (cell_table _ c.args.bearers.now _ _ c.take_cell.new.self c.args.cell c.requires.table there c.take_cell.ensures.point
     c.requires.point (c.bucket-place.ensures.value ∙ ap (λ m. bit_and c.args.cell.tag (m - 1)) counted)) c.take_cell.ensures.ok
 
 pub returns-clause-ok : goal.returns-clause-ok
 returns-clause-ok c =
-    let buckets = c.args.buckets.now.items in
-    let n = c.bucket-place.result in
-    let old = c.index_mut.result.now in
     let counted = c.len.ensures ∙ c.args.buckets.now.ok.0 in
-    let there = read_bucket buckets n c.len.result old c.bucket-place.ensures.within counted c.index_mut.ensures.value in
-    on_ok c.take_cell.result (cell_among buckets c.args.bearers.now n old c.take_cell.new.self c.args.cell c.requires.table there c.take_cell.ensures.point
+    let there = read_bucket _ _ _ _ c.bucket-place.ensures.within counted c.index_mut.ensures.value in
+    on_ok c.take_cell.result (cell_among _ c.args.bearers.now _ _ c.take_cell.new.self c.args.cell c.requires.table there c.take_cell.ensures.point
     c.requires.point (c.bucket-place.ensures.value ∙ ap (λ m. bit_and c.args.cell.tag (m - 1)) counted)) c.take_cell.ensures.ok

@@ -4,22 +4,14 @@ use Rattle.eco_entities.proofs.short_names.put_spilled.Goals as goal
 
 pub returns-clause-table : goal.returns-clause-table
 returns-clause-table c =
-    let buckets = c.args.buckets.now.items in
-    let bearers = c.args.bearers.now in
-    let n = c.bucket-place.result in
-    let old = c.index_mut.result.now in
     let counted = c.len.ensures ∙ c.args.buckets.now.ok.0 in
-    let there = read_bucket buckets n c.len.result old c.bucket-place.ensures.within counted c.index_mut.ensures.value in
-    on_ok c.take_spilled.result (table_gains buckets bearers bearers [] n old c.take_spilled.new.self c.requires.table there (nil_right bearers)
+    let there = read_bucket _ _ _ _ c.bucket-place.ensures.within counted c.index_mut.ensures.value in
+    on_ok c.take_spilled.result (table_gains _ _ _ [] _ _ c.take_spilled.new.self c.requires.table there (nil_right c.args.bearers.now)
     c.take_spilled.ensures.point c.args.bearer (c.bucket-place.ensures.value ∙ ap (bucket_of c.args.bearer.key.hash) counted)) c.take_spilled.ensures.ok
 
 pub returns-clause-ok : goal.returns-clause-ok
 returns-clause-ok c =
-    let buckets = c.args.buckets.now.items in
-    let bearers = c.args.bearers.now in
-    let n = c.bucket-place.result in
-    let old = c.index_mut.result.now in
     let counted = c.len.ensures ∙ c.args.buckets.now.ok.0 in
-    let there = read_bucket buckets n c.len.result old c.bucket-place.ensures.within counted c.index_mut.ensures.value in
-    on_ok c.take_spilled.result (among_gains buckets bearers bearers [] n old c.take_spilled.new.self c.requires.table there (nil_right bearers)
+    let there = read_bucket _ _ _ _ c.bucket-place.ensures.within counted c.index_mut.ensures.value in
+    on_ok c.take_spilled.result (among_gains _ _ _ [] _ _ c.take_spilled.new.self c.requires.table there (nil_right c.args.bearers.now)
     c.take_spilled.ensures.point c.args.bearer (c.bucket-place.ensures.value ∙ ap (bucket_of c.args.bearer.key.hash) counted)) c.take_spilled.ensures.ok

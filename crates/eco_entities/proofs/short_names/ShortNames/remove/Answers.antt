@@ -5,18 +5,15 @@ use Rattle.eco_entities.proofs.short_names.ShortNames.remove.Goals as goal
 
 pub invariant_of-self : goal.invariant_of-self
 invariant_of-self c =
-    let buckets = c.self.inside.buckets.items in
     let bearers = c.self.inside.bearers.items in
-    let n = c.bucket-place.result in
-    let old = c.index_mut.result.now in
     let new = c.remove.new.self in
     let counted = c.len.ensures ∙ c.self.inside.buckets.ok.0 in
-    let there = read_bucket buckets n c.len.result old c.bucket-place.ensures.within counted c.index_mut.ensures.value in
-    table_loses buckets bearers bearers [] n old new c.self.invariant there (nil_right bearers)
+    let there = read_bucket _ _ _ _ c.bucket-place.ensures.within counted c.index_mut.ensures.value in
+    table_loses _ _ bearers [] _ _ new c.self.invariant there (nil_right bearers)
     (subst (λ bs. AllPoint bs new) c.as_slice.ensures.value c.remove.ensures.point) c.new-key.result
     (λ text own. ap (λ bs. found_in bs new text) (sym c.as_slice.ensures.value) ∙ c.remove.ensures.here text own)
     (λ text other. ap (λ bs. found_in bs new text) (sym c.as_slice.ensures.value) ∙ (c.remove.ensures.others text other
-    ∙ ap (λ bs. found_in bs old text) c.as_slice.ensures.value))
+    ∙ ap (λ bs. found_in bs c.index_mut.result.now text) c.as_slice.ensures.value))
 
 pub returns : goal.returns
 returns c =
@@ -24,16 +21,14 @@ returns c =
     let bearers = c.self.inside.bearers.items in
     let text = c.args.name.bytes in
     let key = c.new-key.result in
-    let n = c.bucket-place.result in
-    let old = c.index_mut.result.now in
     let new = c.remove.new.self in
     let counted = c.len.ensures ∙ c.self.inside.buckets.ok.0 in
-    let there = read_bucket buckets n c.len.result old c.bucket-place.ensures.within counted c.index_mut.ensures.value in
-    subst (λ t. ChangesAt (found_among t) (found_among (set buckets n new, bearers)) text None) c.self.view_is
-    (among_loses buckets bearers bearers [] n old new c.self.invariant there (nil_right bearers)
+    let there = read_bucket _ _ _ _ c.bucket-place.ensures.within counted c.index_mut.ensures.value in
+    subst (λ t. ChangesAt (found_among t) (found_among (set buckets c.bucket-place.result new, bearers)) text None) c.self.view_is
+    (among_loses _ _ bearers [] _ _ new c.self.invariant there (nil_right bearers)
     (subst (λ bs. AllPoint bs new) c.as_slice.ensures.value c.remove.ensures.point) key
     (λ text own. ap (λ bs. found_in bs new text) (sym c.as_slice.ensures.value) ∙ c.remove.ensures.here text own)
     (λ text other. ap (λ bs. found_in bs new text) (sym c.as_slice.ensures.value) ∙ (c.remove.ensures.others text other
-    ∙ ap (λ bs. found_in bs old text) c.as_slice.ensures.value)) text
-    (place_is key.hash text n c.len.result (length buckets) c.bucket-place.ensures.value c.new-key.ensures.hash counted)
+    ∙ ap (λ bs. found_in bs c.index_mut.result.now text) c.as_slice.ensures.value)) text
+    (place_is key.hash text c.bucket-place.result c.len.result (length buckets) c.bucket-place.ensures.value c.new-key.ensures.hash counted)
     (own_key text key c.new-key.ensures.hash (ap (λ t. t.bytes) c.new-key.ensures.text)))

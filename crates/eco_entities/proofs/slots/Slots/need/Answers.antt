@@ -7,7 +7,8 @@ returns-in-Some c =
     let e = c.args.entity in
     let is : c.slot_at.result ≡ slice_get c.self.inside.slots.items e.index = rw c.as_slice.ensures.value at c.slot_at.ensures in
     c.need.ensures (label_of c.self.inside.labels e.index)
-    ∙ sym (ap (λ o. need_in o e.generation) (state_shown c.self.inside c.args.self.now c.self.view_is e.index (Some c.in-Some.slot) (sym c.in-Some.is ∙ is)))
+    ∙ sym (ap (λ o. need_in o e.generation) (state_shown c.self.inside c.args.self.now c.self.view_is e.index (Some c.in-Some.slot) (sym c.in-Some.is
+    ∙ is)))
 
 pub returns-in-None : goal.returns-in-None
 returns-in-None c =

@@ -57,7 +57,8 @@ module _ (Is : List ℕ → Type 0) (first' : Point) (fits : Fits first')
   fault_end text n q e last = record {
     nothing = λ s.
         let (r, t, run, h) = begins_read text [] (subst Is (sym (append-nil text)) s) in
-        let both' : ◌≡◌ {A = ℕ × Point} (n, q) (length text, t) = (let same : ◌≡◌ {A = Option (ℕ × Point)} (Some (n, q)) (Some (length text, t)) = sym e
+        let both' : ◌≡◌ {A = ℕ × Point} (n, q)
+        (length text, t) = (let same : ◌≡◌ {A = Option (ℕ × Point)} (Some (n, q)) (Some (length text, t)) = sym e
         ∙ run in cc) in
         let same : q ≡ t = ap (λ (s : ℕ × Point). s.1) both' in
         let ends : end t ≡ Some r = end_in (length (text ++ [])) r t h in

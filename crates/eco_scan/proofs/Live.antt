@@ -116,7 +116,8 @@ live_second : (n : ℕ) (c : Before) (p q : WrittenPart) → Live n (at (behind 
 live_second n c p q = live_by n (at (behind (second c p) q)) 41 (at (after c (pair p q))) refl (live_after (n + 1) c (pair p q))
 
 live_behind : (n : ℕ) (o : Role) (p : WrittenPart) → FitsAt (behind o p) → Live n (at (behind o p))
-live_behind n (whole c) p f = let (r, h) = live_atom_end c.head n c (single p) in (n, r, [], (let e : n + 0 ≡ n = omega arith in e), ([], ([], refl, refl), h))
+live_behind n (whole c) p f = let (r, h) = live_atom_end c.head n c (single p) in
+    (n, r, [], (let e : n + 0 ≡ n = omega arith in e), ([], ([], refl, refl), h))
 live_behind n (first c) p f =
     live_by n (at (behind (first c) p)) 44 (at (part (second c p))) refl
     (live_by (n + 1) (at (part (second c p))) 42 (at (behind (second c p) each)) refl (live_second (n + 1 + 1) c p each))

@@ -20,7 +20,16 @@ through_more : (m b : ℕ) (p q : Point) (bs : List ℕ) → move m p b ≡ Some
 through_more m b p q bs e (inl (c, r, count, run)) =
     inl (c, r, omega arith, ap (λ o. option_and_then (λ s. runs advance s bs) (option_map (λ q. (m + 1, q)) o)) e ∙ run)
 through_more m b p q bs e (inr (n, c, r, count, lt, run, stuck)) =
-    inr (suc n, c, r, omega arith, omega arith, ap (λ o. option_and_then (λ s. runs advance s (take n bs)) (option_map (λ q. (m + 1, q)) o)) e ∙ run, stuck)
+    inr (
+      suc n,
+      c,
+      r,
+      omega arith,
+      omega arith,
+      ap (λ o. option_and_then (λ s. runs advance s (take n bs)) (option_map (λ q. (m + 1, q)) o)) e
+          ∙ run,
+      stuck,
+    )
 
 through : (m : ℕ) (p : Point) (text : List ℕ) → RunsThrough m p text ⊎ Sticks m p text
 through m p [] = inl (m, p, omega arith, refl)

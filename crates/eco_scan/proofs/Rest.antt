@@ -92,7 +92,8 @@ module _ (size : ℕ) (r : List WrittenSlot) where
   atom_join c u (inl (p, v, s, f)) = (single p, v, s, f)
   atom_join c u (inr (a, left, (p, b, isp, (d, comma', (q, e, isq, (v, right, f)))))) = (pair p q, v, (a, b, d, e, left, isp, comma', isq, right), f)
 
-  body_split : (ss : List WrittenSlot) (a : Access) (k : WrittenBody) (more : List WrittenSlot) (u v : List ℕ) → IsBody size u v k → AreMoreSlots size v more
+  body_split : (ss : List WrittenSlot) (a : Access) (k : WrittenBody) (more : List WrittenSlot) (u v : List ℕ) → IsBody size u v k
+      → AreMoreSlots size v more
       → r ≡ ss ++ (record { access = a; body = k }) ∷ more → BodyThen ss a u
   body_split ss a (absent x) more u v (w, tok, s) slots e = inr (inl (w, tok, atom_split (begun ss a Not) x w v s (more, slots, e)))
   body_split ss a (optional x) more u v (w, tok, s) slots e = inr (inr (w, tok, atom_split (begun ss a Optional) x w v s (more, slots, e)))
@@ -142,7 +143,8 @@ module _ (size : ℕ) (r : List WrittenSlot) where
       )
 
   comma_out : (h : Head) (c : Before) (x : WrittenAtom) (b : ℕ) (u : List ℕ) → Sat (comma h c x b) (λ q. Rest q u)
-      → (more : List WrittenSlot) × AreMoreSlots size (b ∷ u) more × (r ≡ c.slots ++ (record { access = c.access; body = body_of h c.others x }) ∷ more)
+      → (more : List WrittenSlot) × AreMoreSlots size (b ∷ u) more
+      × (r ≡ c.slots ++ (record { access = c.access; body = body_of h c.others x }) ∷ more)
   comma_out h c x b u s =
       sat_if (b == 44) _ _ (λ q. Rest q u) _
       (λ e (a, tok, t).
@@ -272,10 +274,12 @@ module _ (size : ℕ) (r : List WrittenSlot) where
   atom_out n c b u y place s =
       elim (part_out n (whole c) b u _ place s) [
         | inl t ↦ inl (inl t)
-        | inr t ↦ sat_if (b == 40) _ _ (λ q. Rest q u) _ (λ e (v, tok, s). inl (inr (v, tok_uncons 40 [] b u v (same_byte b 40 e) tok, s))) (λ _ s. inr s) t
+        | inr t ↦ sat_if (b == 40) _ _ (λ q. Rest q u) _ (λ e (v, tok, s). inl (inr (v, tok_uncons 40 [] b u v (same_byte b 40 e) tok, s)))
+            (λ _ s. inr s) t
       ]
 
-  body_in : (n : ℕ) (ss : List WrittenSlot) (a : Access) (b : ℕ) (u : List ℕ) (y : Option Point) → n + length (b ∷ u) ≡ size → BodyThen ss a (b ∷ u)
+  body_in : (n : ℕ) (ss : List WrittenSlot) (a : Access) (b : ℕ) (u : List ℕ) (y : Option Point) → n + length (b ∷ u) ≡ size
+      → BodyThen ss a (b ∷ u)
       → Sat (body_or n ss a b y) (λ q. Rest q u)
   body_in n ss a b u y place (inl s) = atom_in n (begun ss a Plain) b u _ place s
   body_in n ss a b u y place (inr (inl (v, tok, s))) = grind (arith, common_steps, tok_cons)
@@ -300,7 +304,8 @@ module _ (size : ℕ) (r : List WrittenSlot) where
       let t = tok_cons 91 [] b u v tok in subst (λ k. Sat (enter n (slot ss) k) (λ q. Rest q u)) (sym t.0) (v, t.1, s)
   enter_in n (word ss) b u place (a, v, tok, s) =
       elim (access_word a) as (λ w. access_word a ≡ w → IsTok w (b ∷ u) v → Sat (enter n (word ss) b) (λ q. Rest q u)) [
-        | [] ↦ λ e. absurd (elim a as (λ a. access_word a ≡ [] → ⊥) [ In ↦ λ e. cc | Out ↦ λ e. cc | InOut ↦ λ e. cc | InOutNone ↦ λ e. cc ] e)
+        | [] ↦ λ e. absurd (elim a as (λ a. access_word a ≡ [] → ⊥)
+            [ In ↦ λ e. cc | Out ↦ λ e. cc | InOut ↦ λ e. cc | InOutNone ↦ λ e. cc ] e)
         | k ∷ t ↦ λ e tok.
             let p = tok_cons k t b u v tok in
             let b_is : b ≡ k = p.0 in
@@ -376,7 +381,8 @@ module _ (size : ℕ) (r : List WrittenSlot) where
       λ w. subst (λ b. is_front (access_word a ++ b ∷ []) ≡ false) (sym w) (four 93 refl refl refl refl a) in
       let ends : is_front (access_word a ++ b ∷ []) ≡ false =
       sat_if (is_white b) _ _ (λ q. Rest q u) (is_front (access_word a ++ b ∷ []) ≡ false) (λ w _. white w)
-      (λ _ t. sat_if (b == 93) _ _ (λ q. Rest q u) (is_front (access_word a ++ b ∷ []) ≡ false) (λ w _. bracket (same_byte b 93 w)) (λ _ z. absurd z) t) s in
+      (λ _ t. sat_if (b == 93) _ _ (λ q. Rest q u) (is_front (access_word a ++ b ∷ []) ≡ false) (λ w _. bracket (same_byte b 93 w))
+      (λ _ z. absurd z) t) s in
       else_sat (is_front (m ++ b ∷ [])) _ _ (λ q. Rest q u) (subst (λ m. is_front (m ++ b ∷ []) ≡ false) (sym word_is) ends)
       (subst (λ o. Sat (option_and_then (λ a. move_at n (shut ss a) b) o) (λ q. Rest q u)) (sym found) s)
   move_in n (letters ss m) b u place (a, k ∷ t, v, e, tok, shuts) =
@@ -460,8 +466,15 @@ module _ (size : ℕ) (r : List WrittenSlot) where
       (λ w h. sat_if (nat_lt (length m) 63) _ _ (λ q. Rest q u) _
       (λ l (t, v, words, small, tok, f).
       let less : length m < 63 = ltb-true (length m) 63 l in
-      let longer : length (m ++ b ∷ []) ≡ length m + 1 = length-append m (b ∷ []) in
-      (b ∷ t, v, and_from _ _ w words, omega arith, tok_uncons b t b u v refl tok, subst (λ w. Follow o (part_of_word from w) v) (append_assoc m (b ∷ []) t) f))
+      let longer : length (m ++ b ∷ []) ≡ length m + 1 = length-append m (b ∷ []) in (
+        b ∷ t,
+        v,
+        and_from _ _ w words,
+        omega arith,
+        tok_uncons b t b u v refl tok,
+        subst (λ w. Follow o (part_of_word from w) v)
+            (append_assoc m (b ∷ []) t) f,
+      ))
       (λ _ z. absurd z) h)
       (λ _ h. sat_if (is_lone m && not (takes_wildcard o)) _ _ (λ q. Rest q u) _ (λ _ z. absurd z)
       (λ _ h. let (v, tok, f) = skip_out n (behind o (part_of_word from m)) b u place h in

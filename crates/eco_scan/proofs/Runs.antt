@@ -24,13 +24,15 @@ run_in size r (b ∷ u) v n p place h =
     let more : (n + 1) + length u ≡ n + length (b ∷ u) = omega arith in
     (t, ap (λ o. option_and_then (λ q. runs advance q u) (option_map (λ q. (n + 1, q)) o)) e ∙ f ∙ ap (λ k. Some (k, t)) more, last)
 
-pub run_out : (size : ℕ) (r : List WrittenSlot) (u v : List ℕ) (n m : ℕ) (p q : Point) → n + length (u ++ v) ≡ size → runs advance (n, p) u ≡ Some (m, q)
+pub run_out : (size : ℕ) (r : List WrittenSlot) (u v : List ℕ) (n m : ℕ) (p q : Point) → n + length (u ++ v) ≡ size
+    → runs advance (n, p) u ≡ Some (m, q)
     → Rest size r q v → Rest size r p (u ++ v)
 run_out size r [] v n m p q place e h = let both' : ◌≡◌ {A = ℕ × Point} (n, p) (m, q) = cc in
     let same : p ≡ q = ap (λ (s : ℕ × Point). s.1) both' in subst (λ p. Rest size r p v) (sym same) h
 run_out size r (b ∷ u) v n m p q place e h =
     move_out size r n p b (u ++ v) place
-    (elim (move n p b) as (λ o. option_and_then (λ q. runs advance q u) (option_map (λ q. (n + 1, q)) o) ≡ Some (m, q) → Sat o (λ t. Rest size r t (u ++ v))) [
+    (elim (move n p b) as (λ o. option_and_then (λ q. runs advance q u) (option_map (λ q. (n + 1, q)) o) ≡ Some (m, q)
+    → Sat o (λ t. Rest size r t (u ++ v))) [
       | None ↦ λ f. let bad : ◌≡◌ {A = Option (ℕ × Point)} None (Some (m, q)) = f in cc
       | Some t ↦ λ f. run_out size r u v (n + 1) m t q (omega arith) f h
     ] e)

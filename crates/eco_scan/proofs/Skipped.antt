@@ -6,7 +6,8 @@ use Rattle.eco_scan.proofs.Loops.{reached_more}
 use Rattle.eco_scan.proofs.Stuck.{slice_range_more}
 
 module _ (text : List ℕ) (n : ℕ) (start : Point) where
-  pub white_more : (s : Spot) → n < length text → is_white (slice_index text n) ≡ true → Reached start text n (at s) → Reached start text (n + 1) (at s)
+  pub white_more : (s : Spot) → n < length text → is_white (slice_index text n) ≡ true → Reached start text n (at s)
+      → Reached start text (n + 1) (at s)
   white_more s lt is run = reached_more start text n (at s) (at s) lt run (rw is refl)
 
   pub name_more : (o : Role) (from : ℕ) → from ≤ n → n < length text → may_follow (slice_index text n) ≡ true → n - from < 63
@@ -17,7 +18,8 @@ module _ (text : List ℕ) (n : ℕ) (start : Point) where
       rw (slice_range_more text from n le lt)
       (reached_more start text n (name_of o from (slice_range text from n)) _ lt run (rw (is, fits) refl))
 
-  pub index_more : (o : Role) (from i j : ℕ) → n < length text → is_digit (slice_index text n) ≡ true → with_digit 4294967295 i (slice_index text n) ≡ Some j
+  pub index_more : (o : Role) (from i j : ℕ) → n < length text → is_digit (slice_index text n) ≡ true
+      → with_digit 4294967295 i (slice_index text n) ≡ Some j
       → Reached start text n (index o from i) → Reached start text (n + 1) (index o from j)
   index_more o from i j lt is more run = reached_more start text n (index o from i) (index o from j) lt run (rw (is, more) refl)
 

@@ -91,7 +91,8 @@ ref_fault text n s =
     fault_at (IsSpelled SpellsRef) ref_start tt (λ text (r, s). (ref_slots r, ref_in text r s)) (λ text k h. let (r, s, e) = ref_out text k h in (r, s)) text
     n s
 
-pub ref_ended : (text : List ℕ) (x : WrittenAtom) → EndsWith ref_start text x → (r : PlacedReference) × SpellsRef text r × (x ≡ single (named r.at r.reference))
+pub ref_ended : (text : List ℕ) (x : WrittenAtom) → EndsWith ref_start text x
+    → (r : PlacedReference) × SpellsRef text r × (x ≡ single (named r.at r.reference))
 ref_ended text x (q, c, e, last) =
     let (r, s, same) = ref_out text (slots_with c.head c x) (read_out ref_start text (slots_with c.head c x) (length text) q e last) in
     (r, s, atom_is c x (single (named r.at r.reference)) same)

@@ -76,7 +76,8 @@ none_sat (Some x) P e s = cc
 
 -- ---- access words
 
-pub four : (k : ℕ) → is_front (codes "in" ++ k ∷ []) ≡ false → is_front (codes "out" ++ k ∷ []) ≡ false → is_front (codes "inout" ++ k ∷ []) ≡ false
+pub four : (k : ℕ) → is_front (codes "in" ++ k ∷ []) ≡ false → is_front (codes "out" ++ k ∷ []) ≡ false
+    → is_front (codes "inout" ++ k ∷ []) ≡ false
     → is_front (codes "none" ++ k ∷ []) ≡ false → (a : Access) → is_front (access_word a ++ k ∷ []) ≡ false
 four k p q s t In = p
 four k p q s t Out = q
@@ -112,7 +113,8 @@ pub then_out : {X Y : Type 0} (o : Option X) (f : X → Option Y) (P : Y → Typ
 then_out None f P s = s
 then_out (Some x) f P s = s
 
-pub some_out : {X Y : Type 0} (o : Option X) (f : X → Y) (P : Y → Type 0) → Sat (option_and_then (λ x. Some (f x)) o) P → (x : X) × (o ≡ Some x) × P (f x)
+pub some_out : {X Y : Type 0} (o : Option X) (f : X → Y) (P : Y → Type 0) → Sat (option_and_then (λ x. Some (f x)) o) P
+    → (x : X) × (o ≡ Some x) × P (f x)
 some_out None f P s = absurd s
 some_out (Some x) f P s = (x, refl, s)
 
@@ -127,7 +129,8 @@ pub digits_in : (most i j k : ℕ) (t : List ℕ) → digits most i (k ∷ t) �
     → (is_digit k ≡ true) × (n : ℕ) × (with_digit most i k ≡ Some n) × (digits most n t ≡ Some j)
 digits_in most i j k t e = grind (arith, common_steps)
 
-pub digits_out : (most i j k n : ℕ) (t : List ℕ) → is_digit k ≡ true → with_digit most i k ≡ Some n → digits most n t ≡ Some j → digits most i (k ∷ t) ≡ Some j
+pub digits_out : (most i j k n : ℕ) (t : List ℕ) → is_digit k ≡ true → with_digit most i k ≡ Some n → digits most n t ≡ Some j
+    → digits most i (k ∷ t) ≡ Some j
 digits_out most i j k n t d g e = cond-true (is_digit k) _ _ d ∙ ap (λ o. option_and_then (λ j. digits most j t) o) g ∙ e
 
 pub digits_more : (most i j k n : ℕ) (t : List ℕ) → digits most i t ≡ Some j → is_digit k ≡ true → with_digit most j k ≡ Some n
@@ -163,7 +166,8 @@ number_front most n fits le =
 pub grown_is : (most i k n : ℕ) → with_digit most i k ≡ Some n → (0 < i) × (n ≡ 10 * i + (k - 48)) × (n ≤ most)
 grown_is most i k n e = grind (arith, common_steps, leb-true, ltb-true, and_parts)
 
-pub number_more : (most i j : ℕ) (t : List ℕ) → most < 2 ^ 64 → i ≤ most → digits most i t ≡ Some j → (decimal i ++ t ≡ decimal j) × (j ≤ most)
+pub number_more : (most i j : ℕ) (t : List ℕ) → most < 2 ^ 64 → i ≤ most → digits most i t ≡ Some j
+    → (decimal i ++ t ≡ decimal j) × (j ≤ most)
 number_more most i j [] fits le e = let same : i ≡ j = cc in (append-nil (decimal i) ∙ ap decimal same, omega arith)
 number_more most i j (k ∷ t) fits le e =
     let (d, n, g, rest) = digits_in most i j k t e in

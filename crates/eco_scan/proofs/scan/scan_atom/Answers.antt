@@ -23,7 +23,8 @@ pub returns-in-Some-last_atom-clause-found : goal.returns-in-Some-last_atom-clau
 returns-in-Some-last_atom-clause-found c =
     let (d, run) = c.loop-at.invariant.run in
     let h = c.in-Some-last_atom in
-    reached_atom _ c.args.text.now c.loop-at.at (λ k. point_view c.args.text.now k d c.loop-at.point) (before_view d h.field-0-0 h.field-0-1) (atom_view h.atom)
+    reached_atom _ c.args.text.now c.loop-at.at (λ k. point_view c.args.text.now k d c.loop-at.point) (before_view d h.field-0-0 h.field-0-1)
+    (atom_view h.atom)
     (omega arith) run (sym (h.ensures.end d))
 
 pub returns-in-None-clause-fault : goal.returns-in-None-clause-fault

@@ -53,7 +53,8 @@ module _ {P S : Type 0} (see : P → S) (commands : S → List ℕ → List Comm
   stages_seen (p ∷ pieces) (d ∷ own) [] h = absurd h
   stages_seen (p ∷ pieces) (d ∷ own) (s ∷ stages) h = (h.0, stages_seen pieces own stages h.1)
 
-  zip_seen : (R : S → List ℕ → Type 0) (pieces : List P) (ds : List (List ℕ)) → AllZip (λ p d. R (see p) d) pieces ds → AllZip R (map see pieces) ds
+  zip_seen : (R : S → List ℕ → Type 0) (pieces : List P) (ds : List (List ℕ)) → AllZip (λ p d. R (see p) d) pieces ds
+      → AllZip R (map see pieces) ds
   zip_seen R [] [] h = h
   zip_seen R [] (d ∷ ds) h = absurd h
   zip_seen R (p ∷ pieces) [] h = absurd h
@@ -78,7 +79,8 @@ module _ {B : Type 0} (reads writes : B → List Pattern) (kills : B → Bool) (
 
   abbrev Chosen : List (System B) → List ℕ → Type 0
   Chosen systems places =
-      (ss : List (System B)) × (flat_map (part_at w systems) places ≡ map (body_with_rows w) ss) × (map (model_at (map model systems)) places ≡ map model ss)
+      (ss : List (System B)) × (flat_map (part_at w systems) places ≡ map (body_with_rows w) ss)
+      × (map (model_at (map model systems)) places ≡ map model ss)
 
   -- there is a system at each of the positions
   chosen : (systems : List (System B)) (places : List ℕ) → AllByRecursion (λ k. k < length systems) places → Chosen systems places

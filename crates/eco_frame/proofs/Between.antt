@@ -1,6 +1,9 @@
--- The rows of a piece, by their places among all.
-use Rattle.eco_frame.proofs.Common.{◌≡◌, ◌+◌, ◌-◌, ◌<◌, ◌≤◌, ℕ, List, Some, drop, get_or, length, slice_get, take, ap, ◌∙◌}
-use Rattle.eco_frame.proofs.Common.{arith, get_or-drop, get_or-take, length-drop, length-take-le, get_or_from_slice_get, slice_get-get_or}
+-- The rows of a piece, by their places among all, and what those before a place took.
+use Rattle.eco_frame.proofs.Common.{◌≡◌, ◌+◌, ◌-◌, ◌<◌, ◌≤◌, ℕ, Bool, List, [], Some, drop, get_or, length, slice_get, take, ap, refl}
+use Rattle.eco_frame.proofs.Common.{sym, subst, ◌∙◌, arith, append-nil, get_or-drop, get_or-take, length-drop, length-take-le}
+use Rattle.eco_frame.proofs.Common.{get_or_from_slice_get, slice_get-get_or, take_all, Entity, Command, AllTook, taken_of}
+use Rattle.eco_bodies.specs.Taking.{BreaksAll, OneTook, TakesNext}
+use Rattle.eco_stages.specs.Taking.{Broke}
 
 -- each has at a place what all have there
 pub row_at : {X : Type 0} (rows : List X) (first place end : ℕ) (row : X) → first ≤ place → place < end → end ≤ length rows
@@ -18,9 +21,49 @@ row_at rows first place end row low below most at =
     ∙ ap (λ n. get_or rows n row) same ∙ get_or_from_slice_get rows place row row at)
 
 -- there are no others
-pub no_more : {X : Type 0} (rows : List X) (first end : ℕ) → first ≤ end → end ≤ length rows → length (take (end - first) (drop first rows)) ≤ end - first
+pub no_more : {X : Type 0} (rows : List X) (first end : ℕ) → first ≤ end → end ≤ length rows
+    → length (take (end - first) (drop first rows)) ≤ end - first
 no_more rows first end rises most =
     let dropped = length-drop first rows in
     let enough : end - first ≤ length (drop first rows) = omega (arith, rises, most, dropped) in
     let len = length-take-le (end - first) (drop first rows) enough in
     omega (arith, len)
+
+-- ---- what they take
+
+module _ {X : Type 0} (commands : X → List Entity → List Command) (taken : X → List Entity → ℕ) (all : List X) (first end : ℕ) where
+  abbrev rows : List X
+  rows = take (end - first) (drop first all)
+
+  -- those before the place took their handles
+  abbrev pub TookUntil : ℕ → List Entity → List Entity → List Command → List Command → Type 0
+  TookUntil place = AllTook commands taken (take (place - first) rows)
+
+  pub took_none : (before : List Entity) (stage : List Command) → TookUntil first before before stage stage
+  took_none before stage =
+      let none : first - first ≡ 0 = omega arith in
+      subst (λ (n : ℕ). AllTook commands taken (take n rows) before before stage stage) (sym none)
+      ([], sym (append-nil before), λ later. (refl, sym (append-nil stage)))
+
+  module _ (place : ℕ) {row : X} (before : List Entity) {between : List Entity} (stage : List Command) {stage' : List Command}
+      (low : first ≤ place) (below : place < end) (most : end ≤ length all) (at : slice_get all place ≡ Some row)
+      (took : TookUntil place before between stage stage') where
+    pub took_more : ((xs : List X) → TakesNext commands taken xs) → {after : List Entity} {stage'' : List Command}
+        → OneTook commands taken row between after stage' stage'' → TookUntil (place + 1) before after stage stage''
+    took_more next {after = after} {stage'' = stage''} one =
+        let step : (place + 1) - first ≡ (place - first) + 1 = omega (arith, low) in
+        subst (λ (n : ℕ). AllTook commands taken (take n rows) before after stage stage'') (sym step)
+        (next rows (place - first) row before between after stage stage' stage'' (row_at all first place end row low below most at) took one)
+
+    pub stopped : ((xs : List X) → BreaksAll commands taken xs) → {after : List Entity} {dry : Bool} → Broke (taken row) between after dry
+        → Broke (taken_of taken rows) before after dry
+    stopped breaks {after = after} {dry = dry} broke =
+        breaks rows (place - first) row before between after stage stage' dry (row_at all first place end row low below most at) took broke
+
+  pub took_all : (place : ℕ) (before : List Entity) {after : List Entity} (stage : List Command) {stage' : List Command}
+      → first ≤ end → end ≤ length all → end ≤ place → TookUntil place before after stage stage'
+      → AllTook commands taken rows before after stage stage'
+  took_all place before {after = after} stage {stage' = stage'} rises most past took =
+      let few = no_more all first end rises most in
+      let enough : length rows ≤ place - first = omega (arith, past, few) in
+      subst (λ xs. AllTook commands taken xs before after stage stage') (take_all (place - first) rows enough) took

@@ -23,7 +23,8 @@ next_piece : (rows : List ValuedRow) → 0 < length rows → pieces_of rows ≡ 
 next_piece [] h = absurd (omega (arith, h))
 next_piece (r ∷ rows) h =
     let len = length-drop 64 (r ∷ rows) in
-    ap (λ l. take 64 (r ∷ rows) ∷ l) (cut_enough (length rows) (length (drop 64 (r ∷ rows))) (drop 64 (r ∷ rows)) (omega (arith, len)) (omega (arith, len)))
+    ap (λ l. take 64 (r ∷ rows) ∷ l)
+    (cut_enough (length rows) (length (drop 64 (r ∷ rows))) (drop 64 (r ∷ rows)) (omega (arith, len)) (omega (arith, len)))
 
 -- so many rows as there are, and n at most, are taken off
 drop_min : (n : ℕ) (rows : List ValuedRow) → drop (min n (length rows)) rows ≡ drop n rows
@@ -54,7 +55,8 @@ piece_more body rows first end old pieces h e inv =
     ∙ inv
 
 -- what one more part gives is behind
-pub flat_more : {A Y X : Type 0} (f : Y → List X) (g : A → Y) (xs : List A) (k : ℕ) (x : A) (seen seen' : List X) → k < length xs → x ≡ get_or xs k x
+pub flat_more : {A Y X : Type 0} (f : Y → List X) (g : A → Y) (xs : List A) (k : ℕ) (x : A) (seen seen' : List X) → k < length xs
+    → x ≡ get_or xs k x
     → seen ≡ flat_map f (map g (take k xs)) → seen' ≡ seen ++ f (g x) → seen' ≡ flat_map f (map g (take (k + 1) xs))
 flat_more f g xs k x seen seen' here is so_far more =
     more

@@ -113,7 +113,8 @@ module _ {S : Type 0} (commands : S → List ℕ → List Command) (taken : S �
       let up = ap ascends h.in_turn ∙ range_up base n in
       record { draws = h.draws; recorded = h.recorded; ascend = parts_up h.draws up; each = each_once h.draws base n h.in_turn; alone = λ one. up }
 
-  pub as_out : (base limit : ℕ) (pieces : List S) → base ≤ limit → IsOutInTurn commands taken pieces base limit → IsOut commands taken pieces base limit
+  pub as_out : (base limit : ℕ) (pieces : List S) → base ≤ limit → IsOutInTurn commands taken pieces base limit
+      → IsOut commands taken pieces base limit
   as_out base limit pieces rises h =
       let end : base + (limit - base) ≡ limit = omega (arith, rises) in
       record {

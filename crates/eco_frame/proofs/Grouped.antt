@@ -14,7 +14,8 @@ module _ {S : Type 0} (commands : S → List ℕ → List Command) (taken : S �
 
   abbrev pub Grouped : List (List S) → List (List ℕ) → List (List Command) → Type 0
   Grouped xss own stages =
-      (owns : List (List (List ℕ))) × (stagess : List (List (List Command))) × (joined owns ≡ own) × (joined stagess ≡ stages) × AreGrouped xss owns stagess
+      (owns : List (List (List ℕ))) × (stagess : List (List (List Command))) × (joined owns ≡ own) × (joined stagess ≡ stages)
+      × AreGrouped xss owns stagess
 
   -- the pieces of the first system are the first ones
   abbrev Parted : List S → List S → List (List ℕ) → List (List Command) → Type 0
@@ -22,7 +23,8 @@ module _ {S : Type 0} (commands : S → List ℕ → List Command) (taken : S �
       (d : List (List ℕ)) × (ds : List (List ℕ)) × (s : List (List Command)) × (ss : List (List Command))
       × (d ++ ds ≡ own) × (s ++ ss ≡ stages) × AreStages commands taken xs d s × AreStages commands taken ys ds ss
 
-  parted : (xs ys : List S) (own : List (List ℕ)) (stages : List (List Command)) → AreStages commands taken (xs ++ ys) own stages → Parted xs ys own stages
+  parted : (xs ys : List S) (own : List (List ℕ)) (stages : List (List Command)) → AreStages commands taken (xs ++ ys) own stages
+      → Parted xs ys own stages
   parted [] ys own stages h = ([], own, [], stages, refl, refl, tt, h)
   parted (x ∷ xs) ys [] stages h = absurd h
   parted (x ∷ xs) ys (d ∷ own) [] h = absurd h

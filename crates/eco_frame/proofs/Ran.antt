@@ -12,8 +12,10 @@ map_twice f items [] = refl
 map_twice f items (v ∷ vs) = ap (λ l. map f (items v) ∷ l) (map_twice f items vs)
 
 -- it stopped before its first batch
-stopped_at_once : (Way : WorldState → List SystemModel → BatchDraws → FrameOutcomes → WorldState → Type 0) (w : WorldState) (systems : List SystemModel)
-    (batches : List (List SystemModel)) → AreBatches w (in_order systems) batches → (stop : FrameStop) → stop.batches ≡ 0 → Frames Way w systems (Err stop) w
+stopped_at_once : (Way : WorldState → List SystemModel → BatchDraws → FrameOutcomes → WorldState → Type 0) (w : WorldState)
+    (systems : List SystemModel)
+    (batches : List (List SystemModel)) → AreBatches w (in_order systems) batches → (stop : FrameStop) → stop.batches ≡ 0
+    → Frames Way w systems (Err stop) w
 stopped_at_once Way w systems batches h stop none = ([], [], ([], batches, h, (refl, refl), λ all. refl), none)
 
 -- behind the first ones some are left
@@ -92,7 +94,8 @@ abbrev FewRuns : WorldState → List SystemModel → BatchDraws → FrameOutcome
 FewRuns w batch draws outcomes new = BatchRuns w batch draws outcomes new × HasFewPieces w batch
 
 -- a frame of lawful systems by so many workers on a lawful world may be read in each way
-pub frame_by : FramesAreSolo → StoppedAreSolo → (workers : ℕ) (w : WorldState) (systems : List SystemModel) (r : Result FrameDone FrameStop) (new : WorldState)
+pub frame_by : FramesAreSolo → StoppedAreSolo → (workers : ℕ) (w : WorldState) (systems : List SystemModel) (r : Result FrameDone FrameStop)
+    (new : WorldState)
     → IsLawful w → AllByRecursion IsLawfulSystem systems → Frames (RunsBy workers) w systems r new → IsFrameBy workers w systems r new
 frame_by whole stopped workers w systems r new lawful all ran =
     let batches = frames_weaker (RunsBy workers) BatchRuns (λ v b d o n h. h.0) w systems r new ran in

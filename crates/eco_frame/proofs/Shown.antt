@@ -37,7 +37,8 @@ module _ (value : Id → Option Value) where
       → map slot_view slots ≡ asked → IsItemAt slots k o → IsItemAt entries k e
       → shown_at (option_copied o) (option_copied e) ≡ item_at (entry_values value asked entries) k
   value_is slots asked entries k o e same at there =
-      ap (λ s. shown_at s (option_copied e)) (found slots k o at) ∙ ap (shown_at (slice_get slots k)) (found entries k e there) ∙ sym (item_of slots entries k)
+      ap (λ s. shown_at s (option_copied e)) (found slots k o at) ∙ ap (shown_at (slice_get slots k)) (found entries k e there)
+      ∙ sym (item_of slots entries k)
       ∙ ap (λ ss. item_at (entry_values value ss entries) k) same
 
   -- where there is no such slot

@@ -2,7 +2,8 @@ use Rattle.eco_frame.proofs.Common.{◌++◌, ◌∷◌, [], List, ap, map, subs
 use Rattle.eco_frame.proofs.Common.{IsLawfulSystem, SystemModel, model_of}
 use Rattle.eco_frame.proofs.frame.are_lawful.Goals as goal
 
-one_more : (xs : List SystemModel) (x : SystemModel) → AllByRecursion IsLawfulSystem xs → IsLawfulSystem x → AllByRecursion IsLawfulSystem (xs ++ x ∷ [])
+one_more : (xs : List SystemModel) (x : SystemModel) → AllByRecursion IsLawfulSystem xs → IsLawfulSystem x
+    → AllByRecursion IsLawfulSystem (xs ++ x ∷ [])
 one_more [] x h l = (l, tt)
 one_more (y ∷ xs) x h l = (h.0, one_more xs x h.1 l)
 

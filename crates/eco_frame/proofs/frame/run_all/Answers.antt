@@ -32,7 +32,8 @@ loop-places-preserved g c =
     let ran = subst (λ ps. HasRun c.args.workers c.loop-places.world (map at ps) before after c.run_next.new.world)
     c.deref.ensures.value c.in_ok-run_next.ensures.ok in
     let less = c.loop-places-test.true in
-    let more : take (k + 1) batches ≡ take k batches ++ own ∷ [] = take_more batches k own less ∙ ap (λ v. take k batches ++ v ∷ []) (sym c.places-item.is) in
+    let more : take (k + 1) batches ≡ take k batches ++ own ∷ [] = take_more batches k own less
+    ∙ ap (λ v. take k batches ++ v ∷ []) (sym c.places-item.is) in
     let shape : map (λ p. map at p.items) (take (k + 1) batches) ≡ map (λ p. map at p.items) (take k batches) ++ map at own.items ∷ [] =
     ap (map (λ p. map at p.items)) more ∙ map_push (λ p. map at p.items) (take k batches) own in
     let long = ap length ran.reports ∙ length-append before.reports.items (ran.outcomes ∷ []) in

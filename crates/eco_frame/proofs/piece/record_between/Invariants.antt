@@ -1,4 +1,5 @@
-use Rattle.eco_frame.proofs.Common.{◌≡◌, ◌-◌, false, drop, take, AllTook}
+use Rattle.eco_frame.proofs.Common.{◌≡◌, false}
+use Rattle.eco_frame.proofs.Between.{TookUntil}
 use Rattle.eco_frame.proofs.piece.record_between.Given as goal
 
 -- the rows so far
@@ -7,6 +8,6 @@ invariant-loop-place g l = record {
   rest : g.D.Draws.rest l.draws ≡ g.D.Draws.rest l.fn.draws;
   wet : g.D.Draws.is_dry l.draws ≡ false;
   took :
-      AllTook (g.B.SystemBody.commands l.body) (g.B.SystemBody.taken l.body) (take (l.place - l.first) (take (l.end - l.first) (drop l.first l.rows)))
-      (g.D.Draws.so_far l.fn.draws) (g.D.Draws.so_far l.draws) l.fn.stage l.stage;
+      TookUntil (g.B.SystemBody.commands l.body) (g.B.SystemBody.taken l.body) l.rows l.first l.end l.place (g.D.Draws.so_far l.fn.draws)
+      (g.D.Draws.so_far l.draws) l.fn.stage l.stage;
 }

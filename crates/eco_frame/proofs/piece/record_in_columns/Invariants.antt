@@ -1,5 +1,6 @@
-use Rattle.eco_frame.proofs.Common.{◌≡◌, ◌-◌, false, drop, take, AllTook}
+use Rattle.eco_frame.proofs.Common.{◌≡◌, false}
 use Rattle.eco_frame.specs.Rows.{IsRun}
+use Rattle.eco_frame.proofs.Between.{TookUntil}
 use Rattle.eco_frame.proofs.piece.record_in_columns.Given as goal
 
 -- the rows so far
@@ -10,6 +11,6 @@ invariant-loop-place g l = record {
   run : IsRun l.columns;
   same : l.columns.rows.now ≡ l.rows;
   took :
-      AllTook (g.B.SystemBody.commands l.body) (g.B.SystemBody.taken l.body) (take (l.place - l.first) (take (l.end - l.first) (drop l.first l.rows)))
-      (g.D.Draws.so_far l.fn.draws) (g.D.Draws.so_far l.draws) l.fn.stage l.stage;
+      TookUntil (g.B.SystemBody.commands l.body) (g.B.SystemBody.taken l.body) l.rows l.first l.end l.place (g.D.Draws.so_far l.fn.draws)
+      (g.D.Draws.so_far l.draws) l.fn.stage l.stage;
 }

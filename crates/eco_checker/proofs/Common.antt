@@ -8,7 +8,6 @@ pub use Rattle.std.specs.Prelude.{codes, decimal}
 pub use Rattle.eco_checker.specs.Faults.{edition_in, first_edition, items_in, numbers_without, third_items, unless_found, unless_read}
 pub use Rattle.eco_checker.specs.Lines.{AreFaultLines, AreFaults, AreOfStep, AreOfSteps, IsOfStep, last_line, plural_end, unread_text}
 pub use Rattle.eco_checker.specs.Places.{AddsLines, AddsSome, place_step, place_text}
-pub use Rattle.eco_steps.proofs.Decodes.{no_parts, no_steps, script_is, step_found, step_is}
 pub use Rattle.eco_steps.specs.Decode.{Parts, action_in, command_in, each_in, limit_in, list_in, parts_in, parts_of, parts_with, step_in, version_in}
 pub use Rattle.eco_steps.specs.Script.{IsScript, IsScriptData, WrittenScript}
 pub use Rattle.eco_steps.specs.Steps.{IsStepData, WrittenStep}

@@ -1,8 +1,9 @@
 -- Which numbers are listed, and that these are those of the values that are no step.
 use Rattle.eco_checker.proofs.Common.{◌≡◌, ℕ, ◌+◌, zero, suc, List, [], ◌∷◌, ◌<◌, length, map, get_or, Option, Some, None, refl, ap, sym}
-use Rattle.eco_checker.proofs.Common.{◌∙◌, arith, length-map, Data, step_in, WrittenStep, IsStepData, step_found, step_is, numbers_without, unless_found}
+use Rattle.eco_checker.proofs.Common.{◌∙◌, arith, length-map, Data, step_in, WrittenStep, IsStepData, numbers_without, unless_found}
 use Rattle.std.specs.List.{All, Contains, slice_get}
 use Rattle.eco_ids.specs.declared.edition.Edition.{Edition}
+use Rattle.eco_steps.specs.Laws.{StepsAreFound}
 use Rattle.eco_checker.specs.Laws.{AreThoseOfNoStep}
 
 module _ {A : Type 0} (find : Data → Option A) where
@@ -48,21 +49,21 @@ module _ {A : Type 0} (find : Data → Option A) where
       let at : get_or ns k q < length ds = rw is low in
       let long : length ds ≡ length vs = ap length (sym same) ∙ length-map vs view in omega arith
 
-module _ (edition : Edition) (d : Data) where
+module _ (found : StepsAreFound) (edition : Edition) (d : Data) where
   none_means : step_in edition d ≡ None → (s : WrittenStep) → ¬ IsStepData edition d s
-  none_means none s is = let found = step_found edition d s is in cc
+  none_means none s is = let some = (found edition d s).0 is in cc
 
   means_none : ((s : WrittenStep) → ¬ IsStepData edition d s) → step_in edition d ≡ None
   means_none never = cases (step_in edition d) refl where
     cases : (o : Option WrittenStep) → step_in edition d ≡ o → o ≡ None
     cases None at = refl
-    cases (Some s) at = absurd (never s (step_is edition d s at))
+    cases (Some s) at = absurd (never s ((found edition d s).1 at))
 
-pub are_those_of_no_step : AreThoseOfNoStep
-are_those_of_no_step edition ds n = (
+pub are_those_of_no_step : StepsAreFound → AreThoseOfNoStep
+are_those_of_no_step found edition ds n = (
   λ c.
       let (k, is, (d, at, none)) = lacks (step_in edition) 0 ds n c in
       let same : n ≡ k = omega arith in
-      (d, ap (slice_get ds) same ∙ at, none_means edition d none),
-  λ (d, at, never). listed (step_in edition) 0 ds n n (omega arith) (d, at, means_none edition d never),
+      (d, ap (slice_get ds) same ∙ at, none_means found edition d none),
+  λ (d, at, never). listed (step_in edition) 0 ds n n (omega arith) (d, at, means_none found edition d never),
 )

@@ -1,9 +1,11 @@
 -- A value is a script exactly where it has the three parts of one, and no number of an item is listed.
 use Rattle.eco_checker.proofs.Common.{◌≡◌, ℕ, ◌+◌, true, List, [], ◌∷◌, Option, Some, None, option_map, option_and_then, refl, ap, sym}
 use Rattle.eco_checker.proofs.Common.{◌∙◌, is_some, unwrap_or, Data, Parts, each_in, limit_in, list_in, parts_in, parts_of, parts_with, step_in}
-use Rattle.eco_checker.proofs.Common.{version_in, WrittenScript, IsScriptData, WrittenStep, no_parts, no_steps, script_is, edition_in, first_edition, items_in}
+use Rattle.eco_checker.proofs.Common.{version_in, WrittenScript, IsScriptData, WrittenStep, edition_in, first_edition, items_in}
 use Rattle.eco_checker.proofs.Common.{numbers_without, third_items, unless_found}
 use Rattle.std.proofs.lemmas.Option.{option_and_then_some}
+use Rattle.eco_steps.specs.Decode.{script_in, script_of}
+use Rattle.eco_steps.specs.Laws.{ScriptsAreFound}
 use Rattle.eco_ids.specs.declared.edition.Edition.{Edition}
 use Rattle.eco_ids.specs.declared.edition.Edition.TheVariants.{Second}
 
@@ -57,27 +59,40 @@ numbers_by_parts d edition l items e =
     let (first, third) = told_by_parts d edition l items e in
     ap (λ v. numbers_without (step_in v) 0 (items_in d)) first ∙ ap (numbers_without (step_in edition) 0) third
 
--- no fault, no other value
-pub script_without : (d : Data) → is_some (parts_in d) ≡ true → numbers_without (step_in (edition_in d)) 0 (items_in d) ≡ []
-    → (s : WrittenScript) × IsScriptData d s
-script_without d = parted (parts_in d) refl where
-  parted : (o : Option Parts) → parts_in d ≡ o → is_some o ≡ true → numbers_without (step_in (edition_in d)) 0 (items_in d) ≡ []
-      → (s : WrittenScript) × IsScriptData d s
-  parted None is some none = cc
-  parted (Some (edition, l, items)) is some none =
-      let (ss, are) = all_found (step_in edition) 0 items (sym (numbers_by_parts d edition l items is) ∙ none) in
-      (record { edition = edition; limit = l; steps = ss }, script_is d edition l items ss is are)
+module _ (found : ScriptsAreFound) (d : Data) where
+  -- the script of such parts is found
+  of_parts : (edition : Edition) (l : ℕ) (items : List Data) (o : Option (List WrittenStep)) → parts_in d ≡ Some (edition, l, items)
+      → each_in (step_in edition) items ≡ o
+      → script_in d ≡ option_map (λ ss. let s : WrittenScript = record { edition = edition; limit = l; steps = ss } in s) o
+  of_parts edition l items o e f =
+      ap (option_and_then script_of) e
+      ∙ ap (option_map (λ ss. let s : WrittenScript = record { edition = edition; limit = l; steps = ss } in s)) f
 
--- a script, no fault
-pub none_of_script : (d : Data) (s : WrittenScript) → IsScriptData d s
-    → (is_some (parts_in d) ≡ true) × (numbers_without (step_in (edition_in d)) 0 (items_in d) ≡ [])
-none_of_script d s is = parted (parts_in d) refl where
-  stepped : (edition : Edition) (l : ℕ) (items : List Data) → parts_in d ≡ Some (edition, l, items)
-      → (o : Option (List WrittenStep)) → each_in (step_in edition) items ≡ o → numbers_without (step_in (edition_in d)) 0 (items_in d) ≡ []
-  stepped edition l items at None e = absurd (no_steps d edition l items at e s is)
-  stepped edition l items at (Some ss) e = numbers_by_parts d edition l items at ∙ none_left (step_in edition) 0 items ss e
+  -- no fault, no other value
+  pub script_without : is_some (parts_in d) ≡ true → numbers_without (step_in (edition_in d)) 0 (items_in d) ≡ [] → (s : WrittenScript) × IsScriptData d s
+  script_without = parted (parts_in d) refl where
+    parted : (o : Option Parts) → parts_in d ≡ o → is_some o ≡ true → numbers_without (step_in (edition_in d)) 0 (items_in d) ≡ []
+        → (s : WrittenScript) × IsScriptData d s
+    parted None is some none = cc
+    parted (Some (edition, l, items)) is some none =
+        let (ss, are) = all_found (step_in edition) 0 items (sym (numbers_by_parts d edition l items is) ∙ none) in
+        let s : WrittenScript = record { edition = edition; limit = l; steps = ss } in
+        (s, (found d s).1 (of_parts edition l items (Some ss) is are))
 
-  parted : (o : Option Parts) → parts_in d ≡ o
+  -- a script, no fault
+  pub none_of_script : (s : WrittenScript) → IsScriptData d s
       → (is_some (parts_in d) ≡ true) × (numbers_without (step_in (edition_in d)) 0 (items_in d) ≡ [])
-  parted None at = absurd (no_parts d at s is)
-  parted (Some (edition, l, items)) at = (ap (λ o. is_some o) at, stepped edition l items at (each_in (step_in edition) items) refl)
+  none_of_script s is = parted (parts_in d) refl where
+    -- where none is found, it is none
+    other : script_in d ≡ None → ⊥
+    other none = let some = (found d s).0 is in cc
+
+    stepped : (edition : Edition) (l : ℕ) (items : List Data) → parts_in d ≡ Some (edition, l, items)
+        → (o : Option (List WrittenStep)) → each_in (step_in edition) items ≡ o → numbers_without (step_in (edition_in d)) 0 (items_in d) ≡ []
+    stepped edition l items at None e = absurd (other (of_parts edition l items None at e))
+    stepped edition l items at (Some ss) e = numbers_by_parts d edition l items at ∙ none_left (step_in edition) 0 items ss e
+
+    parted : (o : Option Parts) → parts_in d ≡ o
+        → (is_some (parts_in d) ≡ true) × (numbers_without (step_in (edition_in d)) 0 (items_in d) ≡ [])
+    parted None at = absurd (other (ap (option_and_then script_of) at))
+    parted (Some (edition, l, items)) at = (ap (λ o. is_some o) at, stepped edition l items at (each_in (step_in edition) items) refl)

@@ -79,6 +79,7 @@ impl<'a> Faults<'a> {
             → (s : WrittenScript) × IsScriptData (view value.now) s) }
         ensures none { IfOk result (λ f. (s : WrittenScript) → IsScriptData (view value.now) s → IsClean f) }
     {
+        eco_steps::laws::values_are_found();
         let has_head = has_parts(value);
         let edition = steps_edition(value);
         let items = step_items(value);

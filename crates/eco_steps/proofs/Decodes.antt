@@ -1,6 +1,6 @@
 -- What is found in a value is exactly the script that it is.
 use Rattle.eco_steps.proofs.Common.{◌≡◌, ◌≤◌, ℕ, zero, suc, true, List, [], ◌∷◌, map, Option, Some, None, option_map, option_and_then, refl}
-use Rattle.eco_steps.proofs.Common.{ap, sym, ◌∙◌, codes, arith, option_or, bytes_eq, All, AllZip, option_and_then_some, as_str, Edition, First, Second}
+use Rattle.eco_steps.proofs.Common.{ap, sym, subst, ◌∙◌, codes, arith, option_or, bytes_eq, All, AllZip, option_and_then_some, as_str, Edition, First, Second}
 use Rattle.eco_steps.proofs.Common.{builtin_count, largest_arity, list_in, each_in, name_in, number_in, value_of_data, change_with, change_of_text}
 use Rattle.eco_steps.proofs.Common.{change_of_texts, change_of_two, change_of_three, text_changes, texts_changes, bare_steps, text_steps, texts_steps}
 use Rattle.eco_steps.proofs.Common.{created_of, command_with, command_in, stage_in, stages_in, step_of_none, step_of_one, step_of_text, step_of_texts}
@@ -209,7 +209,7 @@ version_is d edition e = mapped edition_of (number_in 1 2 d) edition e (λ k n q
 
 -- ---- scripts
 
-script_in_data : (d : Data) (s : WrittenScript) → IsScriptData d s → script_in d ≡ Some s
+pub script_in_data : (d : Data) (s : WrittenScript) → IsScriptData d s → script_in d ≡ Some s
 script_in_data d s is =
     rw (
       is.is_list,
@@ -256,12 +256,15 @@ script_is d edition l items ss e f =
       at_most = most;
     })
 
+pub script_found : (d : Data) (s : WrittenScript) → script_in d ≡ Some s → IsScriptData d s
+script_found d s e =
+    option_and_then_some script_of (parts_in d) s e
+    (λ p at h. mapped (λ ss. let t : WrittenScript = record { edition = p.0; limit = p.1; steps = ss } in t) (each_in (step_in p.0) p.2) s h
+    (λ ss are same. subst (IsScriptData d) (sym same) (script_is d p.0 p.1 p.2 ss at are)))
+
 -- where nothing is found, the value is no script
 no_script : (d : Data) → script_in d ≡ None → (s : WrittenScript) → ¬ IsScriptData d s
 no_script d e s is = let found = script_in_data d s is in cc
-
-pub no_parts : (d : Data) → parts_in d ≡ None → (s : WrittenScript) → ¬ IsScriptData d s
-no_parts d e = no_script d (ap (option_and_then script_of) e)
 
 pub no_steps : (d : Data) (edition : Edition) (l : ℕ) (items : List Data) → parts_in d ≡ Some (edition, l, items)
     → each_in (step_in edition) items ≡ None → (s : WrittenScript) → ¬ IsScriptData d s

@@ -1,7 +1,13 @@
-//! The law of scripts: a function that does nothing, and its contract is the law.
-ghost use Rattle.eco_steps.specs.Laws.{AreOneScript};
+//! Laws of scripts: each function does nothing, and its contract is the law.
+ghost use Rattle.eco_steps.specs.Laws.{AreOneScript, ScriptsAreFound, StepsAreFound};
 
 /// Bytes are one script at most.
 pub fn bytes_are_one_script()
     ensures { AreOneScript }
+{}
+
+/// What is found in a value is exactly the step, or the script, that it is.
+pub fn values_are_found()
+    ensures steps { StepsAreFound }
+    ensures scripts { ScriptsAreFound }
 {}

@@ -9,9 +9,9 @@ returns-clause-steps c =
 
 pub returns-clause-script : goal.returns-clause-script
 returns-clause-script c = λ (head, none).
-    script_without (view c.args.value.now) (sym c.has_parts-has_head.ensures ∙ head) (sym (returns-clause-steps c) ∙ none)
+    script_without c.values_are_found.ensures.scripts (view c.args.value.now) (sym c.has_parts-has_head.ensures ∙ head) (sym (returns-clause-steps c) ∙ none)
 
 pub returns-clause-none : goal.returns-clause-none
 returns-clause-none c = λ s is.
-    let (parts, none) = none_of_script (view c.args.value.now) s is in
+    let (parts, none) = none_of_script c.values_are_found.ensures.scripts (view c.args.value.now) s is in
     (c.has_parts-has_head.ensures ∙ parts, returns-clause-steps c ∙ none)

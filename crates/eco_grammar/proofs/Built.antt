@@ -44,7 +44,8 @@ pending_wildcard xs (marks.Other a x ∷ ms) s w g =
 pending_wildcard (y ∷ ys) (marks.Slot a Plain x ∷ ms) s w g = rw (group_wildcards a y ys (atom_view x), w) refl
 pending_wildcard _ _ s w g = cc
 
-last_wildcard : (a : Access) (h : Head) (xs : List WrittenAtom) (x : WrittenAtom) → list_any has_wildcard xs ≡ false → (some_of xs && is_bare_head h) ≡ false
+last_wildcard : (a : Access) (h : Head) (xs : List WrittenAtom) (x : WrittenAtom) → list_any has_wildcard xs ≡ false
+    → (some_of xs && is_bare_head h) ≡ false
     → misplaces_last h (some_of xs) x ≡ misplaces_wildcard (record { access = a; body = body_of h xs x })
 last_wildcard a Plain (y ∷ ys) x w e = sym (group_wildcards a y ys x ∙ rw w refl)
 last_wildcard a Alone (y ∷ ys) x w e = cc
@@ -113,7 +114,8 @@ module _ (entity_named : List ℕ → Option Entity) where
               | Ok rest ↦ λ d e.
                   let same : i ∷ rest ≡ group = cc in
                   ap (λ r. ok_both (λ i is. i ∷ is) (Ok i) r) (ids_more xs rest x d)
-                  ∙ elim (id_of entity_named x) as (λ r. ok_both (λ i is. i ∷ is) (Ok i) (ok_map (λ i. rest ++ i ∷ []) r) ≡ ok_map (λ i. group ++ i ∷ []) r) [
+                  ∙ elim (id_of entity_named x) as (λ r. ok_both (λ i is. i ∷ is) (Ok i) (ok_map (λ i. rest ++ i ∷ []) r)
+                  ≡ ok_map (λ i. group ++ i ∷ []) r) [
                     | Err f ↦ refl
                     | Ok j ↦ ap (λ g. Ok (g ++ j ∷ [])) same
                   ]
@@ -126,7 +128,8 @@ module _ (entity_named : List ℕ → Option Entity) where
   term_two y (z ∷ ys) x = refl
 
   term_group : (y : WrittenAtom) (ys : List WrittenAtom) (group : List Id) (x : WrittenAtom) → ids_of entity_named (y ∷ ys) ≡ Ok group
-      → term_of_body entity_named (alternatives ((y ∷ ys) ++ x ∷ [])) ≡ ok_map (term_with group) (ok_map (λ i. last.Alternative i) (id_of entity_named x))
+      → term_of_body entity_named (alternatives ((y ∷ ys) ++ x ∷ []))
+      ≡ ok_map (term_with group) (ok_map (λ i. last.Alternative i) (id_of entity_named x))
   term_group y ys group x d =
       term_two y ys x ∙ ap (λ r. ok_map (λ is. terms.Or is) r) (ids_more (y ∷ ys) group x d)
       ∙ elim (id_of entity_named x) as
@@ -160,10 +163,12 @@ module _ (entity_named : List ℕ → Option Entity) where
   slot_unknown : (s : WrittenSlot) (ss : List WrittenSlot) (f : Refusal) → term_of_body entity_named s.body ≡ Err f
       → slots_of_written entity_named (s ∷ ss) ≡ Err f
   slot_unknown s ss f e =
-      ap (λ r. ok_both (λ t ts. t ∷ ts) (ok_map (λ a. let q : QuerySlot = record { access = s.access; term = a } in q) r) (slots_of_written entity_named ss)) e
+      ap (λ r. ok_both (λ t ts. t ∷ ts) (ok_map (λ a. let q : QuerySlot = record { access = s.access; term = a } in q) r)
+      (slots_of_written entity_named ss)) e
 
   -- an unknown name in a pending alternative is that of the slots
-  pending_unknown : (xs : List WrittenAtom) (ms : List Mark) (f : Refusal) → some_of xs ≡ true → ids_of entity_named xs ≡ Err f → grouping true ms ≡ Some false
+  pending_unknown : (xs : List WrittenAtom) (ms : List Mark) (f : Refusal) → some_of xs ≡ true → ids_of entity_named xs ≡ Err f
+      → grouping true ms ≡ Some false
       → slots_of_written entity_named (slots_from xs ms) ≡ Err f
   pending_unknown xs (marks.Other a x ∷ ms) f s d g =
       pending_unknown (xs ++ atom_view x ∷ []) ms f (some_of-more xs (atom_view x)) (ids_unknown xs f (atom_view x) d) g
@@ -246,7 +251,8 @@ module _ (entity_named : List ℕ → Option Entity) (all : List Mark) where
     pub not_begin : (ms : List Mark) → Standing entity_named all xs ys group (marks.Begin ∷ ms) → ⊥
     not_begin ms s = let e = s.groups in cc
 
-no_other : {T : Type 0} (r : Result Id Refusal) (l : LastTerm) → ((i : Id) → last.Alternative i ≡ l → T) → ok_map (λ i. last.Alternative i) r ≡ Ok l → T
+no_other : {T : Type 0} (r : Result Id Refusal) (l : LastTerm) → ((i : Id) → last.Alternative i ≡ l → T)
+    → ok_map (λ i. last.Alternative i) r ≡ Ok l → T
 no_other (Err f) l none e = cc
 no_other (Ok i) l none e = none i cc
 
@@ -295,4 +301,5 @@ module _ (entity_named : List ℕ → Option Entity) (all : List Mark) (xs : Lis
 
   pub standing_end : Standing entity_named all xs ys group (drop i all) → length all ≤ i → slots_of_written entity_named (slots_from [] all) ≡ Ok ys
   standing_end s le =
-      s.whole ∙ ap (λ rest. joined entity_named ys (slots_of_written entity_named (slots_from xs rest))) (drop_all i all le) ∙ ap (λ qs. Ok qs) (append-nil ys)
+      s.whole ∙ ap (λ rest. joined entity_named ys (slots_of_written entity_named (slots_from xs rest))) (drop_all i all le)
+      ∙ ap (λ qs. Ok qs) (append-nil ys)

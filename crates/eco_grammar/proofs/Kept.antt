@@ -85,7 +85,8 @@ module _ (entity_named : List ℕ → Option Entity) where
   last_kept : (h : Head) (xs : List WrittenAtom) (group : List Id) (x : WrittenAtom) (l : LastTerm) → ids_of entity_named xs ≡ Ok group
       → last_of entity_named h (some_of xs) x ≡ Ok l → AllByRecursion (λ i. IsPattern (exactly i)) group → IsLast l → IsTerm (term_with group l)
   last_kept h [] group x (last.Alternative i) d e g r = absurd (lone h x i e)
-  last_kept h (y ∷ xs) [] x (last.Alternative i) d e g r = let none : 0 ≡ length (y ∷ xs) = ids_counted entity_named (y ∷ xs) [] d in absurd (omega arith)
+  last_kept h (y ∷ xs) [] x (last.Alternative i) d e g r = let none : 0 ≡ length (y ∷ xs) = ids_counted entity_named (y ∷ xs) [] d in
+      absurd (omega arith)
   last_kept h (y ∷ xs) (j ∷ js) x (last.Alternative i) d e g r =
       (let count = length-append (j ∷ js) (i ∷ []) in omega arith, all_more (λ i. IsPattern (exactly i)) (j ∷ js) i g r)
   last_kept h xs group x _ d e g r = r

@@ -101,7 +101,8 @@ module _ (size : ℕ) where
 
   more_spelled : (i : Id) (is : List Id) (v : List ℕ) → AllByRecursion (λ j. IsPattern (exactly j)) (i ∷ is)
       → length ((id_text i ++ others_text is) ++ v) ≤ size
-      → (a : List ℕ) × IsAtom size ((id_text i ++ others_text is) ++ v) a (atom_before (others_text is ++ v) (exactly i)) × AreMore size a v (atoms_before v is)
+      → (a : List ℕ) × IsAtom size ((id_text i ++ others_text is) ++ v) a (atom_before (others_text is ++ v) (exactly i))
+      × AreMore size a v (atoms_before v is)
   more_spelled i [] v (h, hs) le =
       let same = alternatives_pattern i [] v in (
         v,

@@ -31,11 +31,6 @@ module _ {P K V : Type 0} (at : K → ℕ) (read : P → K → Option V) where
     others = λ j apart. same_read pages n old new there j (change.others j apart);
   }
 
-  -- a page that has the same values
-  pub page_kept : (pages : List P) (n : ℕ) (old new : P) → slice_get pages n ≡ Some old → KeepsAnswers (read old) (read new)
-      → KeepsAnswers (value_at pages) (value_at (set pages n new))
-  page_kept pages n old new there kept = record { all = λ j. same_read pages n old new there j (kept.all j) }
-
   pub absent : (pages : List P) (k : K) (n : ℕ) → n ≡ at k → length pages ≤ n → value_at pages k ≡ None
   absent pages k n is past =
       ap (λ m. option_and_then (λ q. read q k) (slice_get pages m)) (sym is) ∙ ap (option_and_then (λ q. read q k)) (slice_get_past pages n past)
@@ -53,9 +48,6 @@ module _ {P K V : Type 0} (at : K → ℕ) (read : P → K → Option V) where
       by k n (p ∷ ps) [] all = absurd all
       by k zero (p ∷ ps) (q ∷ qs) all = (kept p q all.0).all k
       by k (suc n) (p ∷ ps) (q ∷ qs) all = by k n ps qs all.1
-
-pub keeps_then : {K V : Type 0} {f g h : K → V} → KeepsAnswers f g → KeepsAnswers g h → KeepsAnswers f h
-keeps_then a b = record { all = λ k. b.all k ∙ a.all k }
 
 pub changes_then : {K V : Type 0} {f g h : K → V} {k : K} {v : V} → KeepsAnswers f g → ChangesAt g h k v → ChangesAt f h k v
 changes_then a c = record { here = c.here; others = λ j apart. c.others j apart ∙ a.all j }

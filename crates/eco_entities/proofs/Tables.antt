@@ -167,12 +167,6 @@ pub nil_right : {X : Type 0} (xs : List X) → xs ≡ xs ++ []
 nil_right [] = refl
 nil_right (x ∷ xs) = ap (λ ys. x ∷ ys) (nil_right xs)
 
--- no buckets
-pub none_among : (buckets : List BucketState) (bearers : List Bearer) (text : List ℕ) → length buckets ≡ 0
-    → found_among (buckets, bearers) text ≡ None
-none_among [] bearers text h = refl
-none_among (b ∷ bs) bearers text h = absurd (omega (arith, h))
-
 -- empty ones
 module _ (buckets : List BucketState) (bearers : List Bearer) (empty : All (λ b. b ≡ ([], [])) buckets) where
   nothing : (i : ℕ) (b : BucketState) (text : List ℕ) → slice_get buckets i ≡ Some b → found_in bearers b text ≡ None

@@ -1,5 +1,5 @@
 -- What patterns bring, by the ids of their heads, and their closures.
-use Rattle.eco_batches.proofs.Common.{◌≡◌, ℕ, zero, suc, ◌<◌, ◌==◌, Bool, true, false, ◌||◌, ◌↔◌, ◌⊎◌, inl, inr, List, []}
+use Rattle.eco_batches.proofs.Common.{◌≡◌, ℕ, zero, suc, ◌<◌, ◌==◌, Bool, true, false, ◌↔◌, ◌⊎◌, inl, inr, List, []}
 use Rattle.eco_batches.proofs.Common.{◌∷◌, ◌++◌, map, flat_map, refl, sym, ap, ◌∙◌, subst, ◌+◌, ◌^◌, if◌then◌else◌, append_assoc}
 use Rattle.eco_batches.proofs.Common.{get_or, length, take, IsTrue, true≢false, arith, Option, Some, None, option_map, option_to_list, slice_get}
 use Rattle.eco_batches.proofs.Common.{AllByRecursion, list_any, map-append, take_more, same_Some, none-some, neither, Entity, Id, Part, Is, Each, Any, Pattern}

@@ -6,7 +6,7 @@ use Rattle.eco_bodies.specs.Taking.{BreaksAll, OneTook, TakesNext}
 use Rattle.eco_stages.specs.Taking.{Broke}
 
 -- each has at a place what all have there
-pub row_at : {X : Type 0} (rows : List X) (first place end : ℕ) (row : X) → first ≤ place → place < end → end ≤ length rows
+row_at : {X : Type 0} (rows : List X) (first place end : ℕ) (row : X) → first ≤ place → place < end → end ≤ length rows
     → slice_get rows place ≡ Some row → slice_get (take (end - first) (drop first rows)) (place - first) ≡ Some row
 row_at rows first place end row low below most at =
     let piece = take (end - first) (drop first rows) in
@@ -21,7 +21,7 @@ row_at rows first place end row low below most at =
     ∙ ap (λ n. get_or rows n row) same ∙ get_or_from_slice_get rows place row row at)
 
 -- there are no others
-pub no_more : {X : Type 0} (rows : List X) (first end : ℕ) → first ≤ end → end ≤ length rows
+no_more : {X : Type 0} (rows : List X) (first end : ℕ) → first ≤ end → end ≤ length rows
     → length (take (end - first) (drop first rows)) ≤ end - first
 no_more rows first end rises most =
     let dropped = length-drop first rows in

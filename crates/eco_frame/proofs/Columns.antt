@@ -39,18 +39,6 @@ no_items zero = refl
 no_items (suc k) = refl
 
 module _ (f : Id → Option Value) where
-  -- those from a place on begin with the value there
-  pub next_value : (slots : List Slot) (entries : List (Option Id)) (k : ℕ) (s : Slot) (o : Option Id)
-      → slice_get slots k ≡ Some s → slice_get entries k ≡ Some o
-      → entry_values f (map slot_view (drop k slots)) (drop k entries)
-      ≡ entry_value f s.access o ∷ entry_values f (map slot_view (drop (suc k) slots)) (drop (suc k) entries)
-  next_value [] entries k s o at there = absurd (none-some s at)
-  next_value (x ∷ slots) [] k s o at there = absurd (none-some o there)
-  next_value (x ∷ slots) (y ∷ entries) zero s o at there =
-      ap (λ (z : Slot). entry_value f z.access y ∷ entry_values f (map slot_view slots) entries) (same_Some x s at)
-      ∙ ap (λ z. entry_value f s.access z ∷ entry_values f (map slot_view slots) entries) (same_Some y o there)
-  next_value (x ∷ slots) (y ∷ entries) (suc k) s o at there = next_value slots entries k s o at there
-
   -- there are none behind the last
   pub none_left : (slots : List Slot) (entries : List (Option Id)) (k : ℕ) → (length slots ≤ k) ⊎ (length entries ≤ k)
       → entry_values f (map slot_view (drop k slots)) (drop k entries) ≡ []

@@ -1,5 +1,5 @@
 -- An entry of a row stands at a slot that reads it.
-use Rattle.eco_systems.proofs.Common.{◌≡◌, ℕ, zero, suc, ◌<◌, List, [], ◌∷◌, map, length, Option, Some, None, slice_get, subst, arith}
+use Rattle.eco_systems.proofs.Common.{◌≡◌, ℕ, zero, suc, ◌<◌, List, [], ◌∷◌, map, length, Option, Some, slice_get, subst, arith}
 use Rattle.eco_systems.proofs.Common.{same_Some, refl, none-some, AllByRecursion, Entity, Id, WorldState, Record, living, QuerySlot, ValuedRow, valued}
 use Rattle.eco_systems.proofs.Common.{valued_rows}
 use Rattle.std.specs.Prelude.{Contains, get_or}

@@ -1,7 +1,7 @@
 -- A query's rows with values are the same on worlds that look the same through what it reads.
 use Rattle.eco_systems.proofs.Common.{◌≡◌, ℕ, suc, ◌+◌, Bool, true, false, cond, ◌==◌, T, List, [], ◌∷◌, ◌++◌, map, refl, sym, ap}
 use Rattle.eco_systems.proofs.Common.{◌∙◌, subst, ◌⊎◌, inl, inr, Option, Some, None, is_some, option_map, unwrap_or, slice_get, arith, eqb-true}
-use Rattle.eco_systems.proofs.Common.{flat_map, AllByRecursion, is_sorted, Entity, Id, Value, value_of, IndexState, Retired, Free, Living, record_in}
+use Rattle.eco_systems.proofs.Common.{flat_map, is_sorted, Entity, Id, Value, value_of, IndexState, Retired, Free, Living, record_in}
 use Rattle.eco_systems.proofs.Common.{living_from, IsLawful, id_cmp, WorldState, Record, held_by, living, record_of, record_apart, QuerySlot, HasPositive}
 use Rattle.eco_systems.proofs.Common.{ValuedRow, entry_value, entry_values, valued, valued_rows, shows_values, IsTrue, matches_one, patterns_of}
 use Rattle.eco_ids.proofs.States.{record_here}

@@ -9,9 +9,6 @@ pub record LooksSame (seen : Id → Bool) (w new : WorldState) : Type 0 where
   pub arity : (x : Entity) → arity_of new x ≡ arity_of w x
   pub held : (x : Entity) (j : Id) → IsTrue (seen j) → find id_cmp j (held_by new x) ≡ find id_cmp j (held_by w x)
 
-pub looks_itself : (seen : Id → Bool) (w : WorldState) → LooksSame seen w w
-looks_itself seen w = record { edition = refl; arity = λ x. refl; held = λ x j h. refl }
-
 pub looks_then : {seen : Id → Bool} {w mid new : WorldState} → LooksSame seen w mid → LooksSame seen mid new → LooksSame seen w new
 looks_then p q = record { edition = q.edition ∙ p.edition; arity = λ x. q.arity x ∙ p.arity x; held = λ x j h. q.held x j h ∙ p.held x j h }
 

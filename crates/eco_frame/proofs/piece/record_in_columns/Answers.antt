@@ -1,4 +1,4 @@
-use Rattle.eco_frame.proofs.Common.{◌≡◌, ◌<◌, ◌≤◌, [], Some, get_or, length, slice_get, slice_get-get_or, true≢false, append-nil}
+use Rattle.eco_frame.proofs.Common.{◌≡◌, ◌<◌, ◌≤◌, [], Some, length, slice_get, slice_get-get_or, true≢false, append-nil}
 use Rattle.eco_frame.proofs.Common.{ap, ◌∙◌, refl, sym, arith, ValuedRow, err_from_is_err_and}
 use Rattle.std.proofs.Common.{zero-le}
 use Rattle.eco_frame.specs.Rows.{column_row}

@@ -279,8 +279,7 @@ pub record IsQuiet (s : List Id) : Type 0 where
 
 -- such a one makes nothing clash
 pub quiet_clash : (w : WorldState) (e : Entity) (s : List Id) → (IsTrue (has_symmetric w.edition) → IsLawful w) →
-    (IsTrue (has_symmetric w.edition) → IsQuiet s) →
-    IsFalse (would_clash w e s)
+    (IsTrue (has_symmetric w.edition) → IsQuiet s) → IsFalse (would_clash w e s)
 quiet_clash w e s l quiet = by (has_symmetric w.edition) refl
   where
     Rest : Bool

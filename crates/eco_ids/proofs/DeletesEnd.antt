@@ -56,8 +56,7 @@ module _ (w : WorldState) (members : List Entity) where
       (least_of entity_cmp_total ForbidsSome decide_some (the_living w) (λ h s. living_in w h (s.1).0))
 
 pub deletes_end : (w : WorldState) (IsRoot : Entity → Type 0) → ((e : Entity) → Decided (IsRoot e))
-    → ((e : Entity) → IsRoot e → IsTrue (is_alive w e))
-    → End (Deletes w IsRoot)
+    → ((e : Entity) → IsRoot e → IsTrue (is_alive w e)) → End (Deletes w IsRoot)
 deletes_end w IsRoot is_root alive =
     let members = doomed_listed w IsRoot is_root alive in
     let end = ends w members.0 in

@@ -36,8 +36,7 @@ at_once old unfit x after = by_option old unfit _ _ (answers old x after) (λ wh
 
 -- a step of the entities that is settled is settled in the world
 lifted : {A : Type 0} (w : WorldState) (Step : Indexed Record → Result A Refusal → Indexed Record → Type 0) →
-    IsSettled (entities w) (Step (entities w)) →
-    IsSettled w (OnEntities Step w)
+    IsSettled (entities w) (Step (entities w)) → IsSettled w (OnEntities Step w)
 lifted w Step s = grind (arith, common_steps)
 
 pub makes_settled : (name_of : Record → Option (List ℕ)) (w : WorldState) (d : Record) → IsSettled w (OnEntities (λ v. Makes name_of v d) w)

@@ -9,8 +9,7 @@ taken_more xs i d x lt is = take_more xs i d lt ∙ ap (λ k. take i xs ++ k ∷
 module _ {X Y : Type 0} (xs : List X) (i : ℕ) (d x : X) where
   -- what each item becomes is put behind others
   pub map_further : (f : X → Y) (before now next : List Y) (y : Y) → i < length xs → x ≡ get_or xs i d → now ≡ before ++ map f (take i xs)
-      → y ≡ f x
-      → next ≡ now ++ y ∷ [] → next ≡ before ++ map f (take (i + 1) xs)
+      → y ≡ f x → next ≡ now ++ y ∷ [] → next ≡ before ++ map f (take (i + 1) xs)
   map_further f before now next y lt is inv made put =
       rw (put, inv, made, taken_more xs i d x lt is, map-append) (append_assoc before (map f (take i xs)) (f x ∷ []))
 
@@ -21,8 +20,7 @@ module _ {X Y : Type 0} (xs : List X) (i : ℕ) (d x : X) where
       ap (map f) put ∙ map-append f now (y ∷ []) ∙ rw (inv, made) (sym (ap (map f) (taken_more xs i d x lt is) ∙ map-append f (take i xs) (x ∷ [])))
 
   pub flat_map_further : (f : X → List Y) (now next : List Y) → i < length xs → x ≡ get_or xs i d → now ≡ flat_map f (take i xs)
-      → next ≡ now ++ f x
-      → next ≡ flat_map f (take (i + 1) xs)
+      → next ≡ now ++ f x → next ≡ flat_map f (take (i + 1) xs)
   flat_map_further f now next lt is inv put =
       rw (put, inv) (sym (ap (flat_map f) (taken_more xs i d x lt is) ∙ flat_map-append f (take i xs) (x ∷ [])
       ∙ ap (λ t. flat_map f (take i xs) ++ t) (append-nil (f x))))
@@ -40,8 +38,7 @@ rest (x ∷ xs) = xs
 
 -- what stands at places at which just these are found
 pub found_at : {X : Type 0} (find : ℕ → Option X) (at : ℕ → X) → ((k : ℕ) (x : X) → find k ≡ Some x → at k ≡ x)
-    → (ks : List ℕ) (xs : List X)
-    → map find ks ≡ map Some xs → map at ks ≡ xs
+    → (ks : List ℕ) (xs : List X) → map find ks ≡ map Some xs → map at ks ≡ xs
 found_at find at is [] [] e = refl
 found_at find at is [] (x ∷ xs) e = let n : 0 ≡ suc (length (map Some xs)) = ap length e in absurd (omega (arith, n))
 found_at find at is (k ∷ ks) [] e = let n : suc (length (map find ks)) ≡ 0 = ap length e in absurd (omega (arith, n))

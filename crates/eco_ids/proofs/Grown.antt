@@ -341,8 +341,7 @@ module _
 
 -- where a pair is added, who has a single id had it before
 pub single_before : (w : WorldState) (e : Entity) (i : Id) (s : List Id) (d : Record) → record_of w e ≡ Some d → IsClosure w i s → (r t : Entity)
-    → i ≡ Two r t →
-    (c x : Entity) → IsTrue (has (grown w e i s) x (One c)) → IsTrue (has w x (One c))
+    → i ≡ Two r t → (c x : Entity) → IsTrue (has (grown w e i s) x (One c)) → IsTrue (has w x (One c))
 single_before w e i s d at closure r t is c x = by (mirror_of w e i) refl
   where
     none : IsTrue (has_item id_cmp s (One c)) → ⊥

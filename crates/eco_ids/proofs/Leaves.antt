@@ -25,8 +25,7 @@ abbrev held_in : Option Record → List (Id × Value)
 held_in o = unwrap_or (option_map (λ r. r.held) o) []
 
 leaves_grown : (w : WorldState) (e : Entity) (i : Id) (s : List Id) (d : Record) → record_of w e ≡ Some d → IsTrue (names_living w i) →
-    IsClosure w i s →
-    AddLeaves w e i (grown w e i s)
+    IsClosure w i s → AddLeaves w e i (grown w e i s)
 leaves_grown w e i s d at named closure = record {
   closure = s;
   is_closure = closure;
@@ -52,8 +51,7 @@ leaves_grown w e i s d at named closure = record {
 }
   where
     other : (x : Entity) → (x ≡ e → ⊥) → ((m : Entity × Id) → mirror_of w e i ≡ Some m → x ≡ m.0 → ⊥) → (o : Option (Entity × Id)) →
-        mirror_of w e i ≡ o →
-        record_of (with_mirror (half w e s) o) x ≡ record_of w x
+        mirror_of w e i ≡ o → record_of (with_mirror (half w e s) o) x ≡ record_of w x
     other x n apart None is = changed_apart w e (with_closure w s) x n
     other x n apart (Some m) is = changed_apart (half w e s) m.0 (with_id m.1) x (apart m is) ∙ changed_apart w e (with_closure w s) x n
 

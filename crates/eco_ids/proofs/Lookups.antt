@@ -23,8 +23,7 @@ later name n x xs p m =
     record { place = suc m.place; index = omega (arith, at); here = m.here; called_so = m.called_so }
 
 found : (name : List ℕ) (n : ℕ) (xs : List (IndexState Record)) (p : Entity × Record)
-    → find_item (λ q. is_called name q.1.name) (living_from n xs) ≡ Some p
-    → IsFound name n xs p
+    → find_item (λ q. is_called name q.1.name) (living_from n xs) ≡ Some p → IsFound name n xs p
 found name n [] p h = absurd (none-some p h)
 found name n (Living f r ∷ xs) p h = by (is_called name r.name) refl h (found name (n + 1) xs p)
   where

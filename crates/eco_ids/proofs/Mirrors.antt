@@ -112,8 +112,7 @@ module _ (w : WorldState) where
 -- ---- what an edition asks is kept
 
 keeps_edition : (w new : WorldState) → new.edition ≡ w.edition → (IsTrue (has_symmetric w.edition) → IsMirrored w → IsMirrored new) →
-    KeepsEdition w.edition w →
-    KeepsEdition new.edition new
+    KeepsEdition w.edition w → KeepsEdition new.edition new
 keeps_edition w new same go h = subst (λ d. KeepsEdition d new) (sym same) (by w.edition refl h)
   where
     by : (d : Edition) → w.edition ≡ d → KeepsEdition d w → KeepsEdition d new
@@ -126,8 +125,7 @@ lawful_after {w = w} {new = new} l orderly same go = record { orderly = orderly;
 
 -- where the trait was there before
 pub symmetric_before : (w new : WorldState) (r : Entity) → new.edition ≡ w.edition →
-    (IsTrue (has new r (One SYMMETRIC)) → IsTrue (has w r (One SYMMETRIC))) →
-    IsTrue (is_symmetric new r) → IsTrue (is_symmetric w r)
+    (IsTrue (has new r (One SYMMETRIC)) → IsTrue (has w r (One SYMMETRIC))) → IsTrue (is_symmetric new r) → IsTrue (is_symmetric w r)
 symmetric_before w new r same had h =
     both (has_symmetric w.edition) _ (ap has_symmetric (sym same) ∙ first (has_symmetric new.edition) _ h) (had (second (has_symmetric new.edition) _ h))
 

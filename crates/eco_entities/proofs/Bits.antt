@@ -45,8 +45,7 @@ word_of_bit ws k e = pos_of_bit _ (k % 64) (eqb-true _ _ e)
 
 -- another bit, where one word changes and keeps that one
 other_bit : (ws : List ℕ) (k j x : ℕ) → j ≢ k → k / 64 < length ws →
-    (j % 64 ≢ k % 64 → bit_at x (j % 64) ≡ bit_at (get_or ws (k / 64) 0) (j % 64)) →
-    has_bit (set ws (k / 64) x) j ≡ has_bit ws j
+    (j % 64 ≢ k % 64 → bit_at x (j % 64) ≡ bit_at (get_or ws (k / 64) 0) (j % 64)) → has_bit (set ws (k / 64) x) j ≡ has_bit ws j
 other_bit ws k j x ne l kept =
     elim (cases_eq (j / 64) (k / 64)) [
       | inl e ↦
@@ -123,8 +122,7 @@ summarizes-with_bit lower upper k s l u =
 
 -- the last bit of a word is cleared above too
 pub summarizes_emptied : (lower upper : List ℕ) (k : ℕ) → Summarizes lower upper → get_or (without_bit lower k) (k / 64) 0 ≡ 0 →
-    k / 64 / 64 < length upper →
-    Summarizes (without_bit lower k) (without_bit upper (k / 64))
+    k / 64 / 64 < length upper → Summarizes (without_bit lower k) (without_bit upper (k / 64))
 summarizes_emptied lower upper k s z u =
     summarizes_at lower _ upper _ (k / 64) s (has_bit-without_bit_same upper (k / 64) u ∙ ap (nat_lt 0) (sym z))
     (λ w apart. has_bit-without_bit_other upper (k / 64) w apart u) (word-without_bit_other lower k)
@@ -136,8 +134,7 @@ word-without_bit_le ws k l = rw get_or-set_same (and_le_l _ _)
 
 -- a word that keeps a bit stays marked
 pub summarizes_kept : (lower upper : List ℕ) (k : ℕ) → Summarizes lower upper → (get_or (without_bit lower k) (k / 64) 0 ≡ 0 → ⊥) →
-    k / 64 < length lower →
-    Summarizes (without_bit lower k) upper
+    k / 64 < length lower → Summarizes (without_bit lower k) upper
 summarizes_kept lower upper k s ne l =
     let new : 0 < get_or (without_bit lower k) (k / 64) 0 = omega (arith, ne) in
     let old : 0 < get_or lower (k / 64) 0 = omega (arith, word-without_bit_le lower k l) in
@@ -221,8 +218,7 @@ word_filled from to w old new f l after within =
 
 -- a range set below is a range set above
 pub summarizes_filled : (from to up_to : ℕ) (lower lower' upper upper' : List ℕ) → Summarizes lower upper → from < to →
-    up_to ≡ to / 64 + min 1 (to % 64) →
-    FillsBits from to lower lower' → FillsBits (from / 64) up_to upper upper' → Summarizes lower' upper'
+    up_to ≡ to / 64 + min 1 (to % 64) → FillsBits from to lower lower' → FillsBits (from / 64) up_to upper upper' → Summarizes lower' upper'
 summarizes_filled from to up_to lower lower' upper upper' s l up f g = record {
   exact = λ w. elim (cases_lt w (from / 64)) [
     | inl before ↦

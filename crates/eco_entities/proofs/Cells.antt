@@ -197,8 +197,7 @@ module _ (bearers : List Bearer) (cells : List Cell) (key : Key) (place : ℕ) (
       by (Some b) h = refl
 
       found : (text : List ℕ) → is_key_of text key ≡ true → (o : Option Bearer) → slice_get bearers c.place ≡ o
-          → leads_to bearers key c ≡ Some true
-          → found_by bearers cells text ≡ option_map (λ b. b.entity) (slice_get bearers c.place)
+          → leads_to bearers key c ≡ Some true → found_by bearers cells text ≡ option_map (λ b. b.entity) (slice_get bearers c.place)
       found text own None at h = absurd (none-some true (sym (ap (option_map (λ b. is_eq (key_cmp key b.key))) at) ∙ h))
       found text own (Some b) at h =
           let hit : at_cell bearers c text ≡ Some b.entity = cell_hits bearers key text c own h ∙ ap (option_map (λ b. b.entity)) at in
@@ -273,8 +272,7 @@ nobody (Some x) h = absurd (false≢true (sym h))
 pub claimed_cell : (bearers bearers' : List Bearer) (cells cells' : List Cell) (spilled : List (Key × Entity)) (old : BucketState) (b : Bearer) (c : Cell)
     (r : Option Entity)
     → (cells, spilled) ≡ old → bearers' ≡ bearers ++ b ∷ [] → cells' ≡ cells ++ c ∷ [] → c.place ≡ length bearers
-    → All (Points bearers) old.0
-    → ((text : List ℕ) → is_key_of text b.key ≡ true → r ≡ found_in bearers old text) → is_some r ≡ false
+    → All (Points bearers) old.0 → ((text : List ℕ) → is_key_of text b.key ≡ true → r ≡ found_in bearers old text) → is_some r ≡ false
     → Gathers (found_in bearers old) (borne_by b) (found_in bearers' (cells', spilled))
 claimed_cell bearers bearers' cells cells' spilled old b c r view more pushed last points got none =
     subst (λ bs. Gathers (found_in bearers old) (borne_by b) (found_in bs (cells', spilled))) (sym more)

@@ -32,8 +32,7 @@ flags_are n ws xs e same =
 
 -- one flag changes as its bit does
 flags_set : (n : ℕ) (ws new : List ℕ) (i : ℕ) (b : Bool) → i < n → has_bit new i ≡ b →
-    ((k : ℕ) → k ≢ i → has_bit new k ≡ has_bit ws k) →
-    bits_below n new ≡ slice_set (bits_below n ws) i b
+    ((k : ℕ) → k ≢ i → has_bit new k ≡ has_bit ws k) → bits_below n new ≡ slice_set (bits_below n ws) i b
 flags_set n ws new i b l here others =
     flags_are n _ _ (length-set _ i b ∙ length-bits_below n ws)
     (λ k d within. elim (cases_eq k i) [
@@ -164,8 +163,7 @@ pub length-appended : (n : ℕ) (old new : List ℕ) → new ≡ old ++ replicat
 length-appended n old new a = rw (a, length-append, length-replicate) refl
 
 pub levelled_groups : (len n : ℕ) (indices words groups groups' : List ℕ) → IsLevelled len indices words groups →
-    groups' ≡ groups ++ replicate n 0 →
-    length groups' < 2 ^ 32 → IsLevelled len indices words groups'
+    groups' ≡ groups ++ replicate n 0 → length groups' < 2 ^ 32 → IsLevelled len indices words groups'
 levelled_groups len n indices words groups groups' v a b = grind (arith, common_steps, length-appended, summarizes-appended_above)
 
 pub levelled_words : (len n : ℕ) (indices words words' groups : List ℕ) → IsLevelled len indices words groups → words' ≡ words ++ replicate n 0 →

@@ -33,8 +33,7 @@ raised_past f g b l = grind (arith, common_steps)
 
 -- another state at some index, which is past too where it is this one
 past_put : (w : Indexed Registration) (e : Entity) (i : ℕ) (x : IndexState Registration) → IsPast w e →
-    (i ≡ e.index → IsPastIn (Some x) e.generation) →
-    IsPast (record w { indices = slice_set w.indices i x }) e
+    (i ≡ e.index → IsPastIn (Some x) e.generation) → IsPast (record w { indices = slice_set w.indices i x }) e
 past_put w e i x p here = grind (arith, common_steps, cases_eq, past_known, slice_get_within, slice_get-set_same, slice_get-set_other)
 
 past_appended : (xs ys : List (IndexState Registration)) (i g : ℕ) → IsPastIn (slice_get xs i) g → IsPastIn (slice_get (xs ++ ys) i) g

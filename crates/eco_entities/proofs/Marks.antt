@@ -14,8 +14,7 @@ use Rattle.eco_entities.proofs.States.{alive_known, free_known, changed_states, 
 
 -- one state changes, and its mark with it
 pub marked-set : (limit : ℕ) (xs : List (IndexState Registration)) (marks marks' : List Bool) (i : ℕ) (x : IndexState Registration) →
-    IsMarked limit xs marks →
-    i < length xs → GenerationFits (Some x) → marks' ≡ set marks i (is_free x) → IsMarked limit (set xs i x) marks'
+    IsMarked limit xs marks → i < length xs → GenerationFits (Some x) → marks' ≡ set marks i (is_free x) → IsMarked limit (set xs i x) marks'
 marked-set limit xs marks marks' i x m l fits e = search (rules, length-set, map-set, cases_eq, slice_get-set_same, slice_get-set_other)
 
 -- the lowest mark is the lowest free index
@@ -38,8 +37,7 @@ lowest_marked n (Living g r ∷ xs) = lowest_later n (Living g r) xs _ refl (low
 
 -- a state that stays as free as it was keeps its mark
 pub marked_kept : (limit : ℕ) (xs : List (IndexState Registration)) (marks : List Bool) (i : ℕ) (x y : IndexState Registration) →
-    IsMarked limit xs marks →
-    slice_get xs i ≡ Some y → is_free x ≡ is_free y → GenerationFits (Some x) → IsMarked limit (set xs i x) marks
+    IsMarked limit xs marks → slice_get xs i ≡ Some y → is_free x ≡ is_free y → GenerationFits (Some x) → IsMarked limit (set xs i x) marks
 marked_kept limit xs marks i x y m here same fits =
     let within : i < length xs = slice_get_within xs i y here in
     let mark : get_or marks i false ≡ is_free y = ap (λ ms. get_or ms i false) m.marked
@@ -66,8 +64,7 @@ fits-raised A g = grind (arith, common_steps)
 -- who is made next
 
 lowest_unmarked : (limit : ℕ) (xs : List (IndexState Registration)) (marks : List Bool) → IsMarked limit xs marks →
-    None ≡ position_from (λ b. b) 0 marks →
-    lowest_free 0 xs ≡ None
+    None ≡ position_from (λ b. b) 0 marks → lowest_free 0 xs ≡ None
 lowest_unmarked limit xs marks m none = grind (arith, common_steps, lowest_marked)
 
 lowest_mark : (limit : ℕ) (xs : List (IndexState Registration)) (marks : List Bool) (k : ℕ) → IsMarked limit xs marks →
@@ -98,9 +95,7 @@ next_unknown limit xs low = ap (λ o. option_or o (first_unknown limit (length x
 -- more free indices at the end
 
 pub fits-append : {A : Type 0} (xs ys : List (IndexState A)) → ((i : ℕ) → GenerationFits (slice_get xs i))
-    → ((i : ℕ) → GenerationFits (slice_get ys i))
-    → (i : ℕ) →
-    GenerationFits (slice_get (xs ++ ys) i)
+    → ((i : ℕ) → GenerationFits (slice_get ys i)) → (i : ℕ) → GenerationFits (slice_get (xs ++ ys) i)
 fits-append [] ys f g i = g i
 fits-append (x ∷ xs) ys f g zero = f zero
 fits-append (x ∷ xs) ys f g (suc i) = fits-append xs ys (λ j. f (suc j)) g i

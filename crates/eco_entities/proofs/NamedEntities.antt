@@ -87,6 +87,5 @@ registry_named_entity found w name r = registry_finds found w name _ r (found_fr
 
 -- in an index that is shown
 pub registry_shown : (found : List ℕ → Option Entity) (v w : Indexed Registration) (name : List ℕ) → IsRegistry found (own_name given_name v)
-    → v ≡ w
-    → found name ≡ named_entity given_name w name
+    → v ≡ w → found name ≡ named_entity given_name w name
 registry_shown found v w name r shown = registry_named_entity found v name r ∙ ap (λ (x : Indexed Registration). named_entity given_name x name) shown

@@ -37,8 +37,7 @@ module _ {P K V : Type 0} (at : K → ℕ) (read : P → K → Option V) where
 
   -- copies of all pages
   pub values_copied : (C : P → P → Type 0) → ((p q : P) → C p q → KeepsAnswers (read p) (read q)) → (pages pages' : List P)
-      → AllZip C pages pages'
-      → KeepsAnswers (value_at pages) (value_at pages')
+      → AllZip C pages pages' → KeepsAnswers (value_at pages) (value_at pages')
   values_copied C kept pages pages' all = record { all = λ k. by k (at k) pages pages' all }
     where
       by : (k : K) (n : ℕ) (ps qs : List P) → AllZip C ps qs

@@ -38,8 +38,7 @@ module _ {found found' : List ℕ → Option Entity} {own own' : Entity → Opti
 
   -- an entity loses its name
   pub registry_lose : (name : List ℕ) (e : Entity) → IsRegistry found own → own e ≡ Some name → ChangesAt found found' name None →
-      ChangesAt own own' e None →
-      IsRegistry found' own'
+      ChangesAt own own' e None → IsRegistry found' own'
   registry_lose name e r named f o = grind (arith, common_steps, cases_text, none-some, same_Some, cases_entity)
 
   -- an entity without name still has none

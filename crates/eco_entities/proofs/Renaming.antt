@@ -32,8 +32,7 @@ pub renamed_same : (w : Indexed Registration) (e : Entity) (name : List ℕ) →
 renamed_same w e name alive own = grind (arith, common_steps, alive_known, record_at, same_name, set_own)
 
 pub rename_same : (w : Indexed Registration) (e : Entity) (name : List ℕ) → is_alive w e ≡ true → is_name name ≡ true →
-    own_name given_name w e ≡ Some name →
-    RenamesWith given_name renamed w e false (Some name) (Ok tt) w
+    own_name given_name w e ≡ Some name → RenamesWith given_name renamed w e false (Some name) (Ok tt) w
 rename_same w e name alive good own = rw (alive, good, ap (is_called name) own, text_refl name) (refl, sym (renamed_same w e name alive own))
 
 -- a name is refused for itself, and not for want of memory
@@ -52,8 +51,7 @@ checked (Some y) r why h e = let both : Err y ≡ Err why = sym h ∙ e in cc
 
 -- a create whose name is unfit
 pub makes_refused : (w : Indexed Registration) (name : Option (List ℕ)) (arity : Option ℕ) (may : Bool) (why : Refusal)
-    → unfit_name given_name w name ≡ Some why →
-    Meets (Makes given_name w (newcomer name arity)) may w (Err why) w
+    → unfit_name given_name w name ≡ Some why → Meets (Makes given_name w (newcomer name arity)) may w (Err why) w
 makes_refused w name arity may why h = rw (unfit_why Entity w name why h, h) (refl, refl)
 
 -- the test of two handles

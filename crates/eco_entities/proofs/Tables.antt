@@ -30,8 +30,7 @@ pub not_borne : (b : Bearer) (text : List ℕ) → is_key_of text b.key ≡ fals
 not_borne b text h = ap (λ t. cond t (Some b.entity) None) h
 
 pub among_read : (buckets : List BucketState) (bearers : List Bearer) (text : List ℕ) (n : ℕ) (b : BucketState)
-    → n ≡ bucket_of (hash_of text) (length buckets)
-    → slice_get buckets n ≡ Some b → found_among (buckets, bearers) text ≡ found_in bearers b text
+    → n ≡ bucket_of (hash_of text) (length buckets) → slice_get buckets n ≡ Some b → found_among (buckets, bearers) text ≡ found_in bearers b text
 among_read buckets bearers text n b is there = ap (option_and_then (λ b. found_in bearers b text)) (ap (slice_get buckets) (sym is) ∙ there)
 
 -- the bucket that is read at a place
@@ -270,8 +269,7 @@ module _ (f g : List ℕ → Option Entity) (b : Bearer) (bs : List ℕ) (own : 
       ]
 
   pub frees : {X : Type 0} (r : Result X E) → OnErr r (KeepsAnswers f g)
-      → OnErr r ((text : List ℕ) → is_key_of text b.key ≡ true → f text ≡ None)
-      → OnErr r (IsFree f g bs)
+      → OnErr r ((text : List ℕ) → is_key_of text b.key ≡ true → f text ≡ None) → OnErr r (IsFree f g bs)
   frees (Ok x) same free = tt
   frees (Err e) same free = record { free = free bs own; same = same }
 

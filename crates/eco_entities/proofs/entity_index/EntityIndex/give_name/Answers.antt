@@ -9,27 +9,22 @@ use Rattle.eco_entities.proofs.entity_index.EntityIndex.give_name.Goals as goal
 
 pub invariant_of-self-in-Ok-Some : goal.invariant_of-self-in-Ok-Some
 invariant_of-self-in-Ok-Some c =
-    let e = c.args.entity in
-    let name = c.args.name.now in
-    let w = c.self.inside.slots in
     let own = rw c.in-Some.is at c.in_ok-own.ensures.ok in
-    let alive : is_alive w e ≡ true = rw c.self.view_is c.requires.alive in
-    let named : own_name given_name w e ≡ Some c.as_str.result.now = sym c.in-Ok-Some.ensures.was
+    let alive : is_alive c.self.inside.slots c.args.entity ≡ true = rw c.self.view_is c.requires.alive in
+    let named : own_name given_name c.self.inside.slots c.args.entity ≡ Some c.as_str.result.now = sym c.in-Ok-Some.ensures.was
     ∙ (ap (option_map label_text) c.in-Ok-Some.field-0-is ∙ ap Some (sym c.as_str.ensures)) in
     rw (c.in-Ok-Some.ensures.ok, own.0)
-    (registry_exchange c.as_str.result.now name e c.self.invariant named own.1.free c.requires.proper own.1.claimed c.remove.ensures
-    (own-renamed w e (Some name) alive))
+    (registry_exchange c.as_str.result.now c.args.name.now c.args.entity c.self.invariant named own.1.free c.requires.proper own.1.claimed
+    c.remove.ensures (own-renamed c.self.inside.slots c.args.entity (Some c.args.name.now) alive))
 
 pub invariant_of-self-in-Ok-None : goal.invariant_of-self-in-Ok-None
 invariant_of-self-in-Ok-None c =
-    let e = c.args.entity in
-    let name = c.args.name.now in
-    let w = c.self.inside.slots in
     let own = rw c.in-Some.is at c.in_ok-own.ensures.ok in
-    let alive : is_alive w e ≡ true = rw c.self.view_is c.requires.alive in
+    let alive : is_alive c.self.inside.slots c.args.entity ≡ true = rw c.self.view_is c.requires.alive in
     rw (c.in-Ok-None.ensures.ok, own.0)
-    (registry_gain name e c.self.invariant (sym c.in-Ok-None.ensures.was
-    ∙ ap (option_map label_text) c.in-Ok-None.field-0-is) own.1.free c.requires.proper own.1.claimed (own-renamed w e (Some name) alive))
+    (registry_gain c.args.name.now c.args.entity c.self.invariant (sym c.in-Ok-None.ensures.was
+    ∙ ap (option_map label_text) c.in-Ok-None.field-0-is) own.1.free c.requires.proper own.1.claimed
+    (own-renamed c.self.inside.slots c.args.entity (Some c.args.name.now) alive))
 
 pub invariant_of-self-in-Err : goal.invariant_of-self-in-Err
 invariant_of-self-in-Err c =

@@ -36,8 +36,7 @@ drop_min (suc n) (r ∷ rows) =
 
 -- one piece more of a system's rows, from one place to another
 pub piece_more : {B : Type 0} (body : B) (rows : List ValuedRow) (first end : ℕ) (old pieces : List (B × List ValuedRow))
-    → first < length rows → end ≡ first + min 64 (length rows - first)
-    → pieces ++ pieces_in (body, drop first rows) ≡ old ++ pieces_in (body, rows)
+    → first < length rows → end ≡ first + min 64 (length rows - first) → pieces ++ pieces_in (body, drop first rows) ≡ old ++ pieces_in (body, rows)
     → (pieces ++ (body, take (end - first) (drop first rows)) ∷ []) ++ pieces_in (body, drop end rows) ≡ old ++ pieces_in (body, rows)
 piece_more body rows first end old pieces h e inv =
     let rest = drop first rows in
@@ -56,8 +55,7 @@ piece_more body rows first end old pieces h e inv =
 
 -- what one more part gives is behind
 pub flat_more : {A Y X : Type 0} (f : Y → List X) (g : A → Y) (xs : List A) (k : ℕ) (x : A) (seen seen' : List X) → k < length xs
-    → x ≡ get_or xs k x
-    → seen ≡ flat_map f (map g (take k xs)) → seen' ≡ seen ++ f (g x) → seen' ≡ flat_map f (map g (take (k + 1) xs))
+    → x ≡ get_or xs k x → seen ≡ flat_map f (map g (take k xs)) → seen' ≡ seen ++ f (g x) → seen' ≡ flat_map f (map g (take (k + 1) xs))
 flat_more f g xs k x seen seen' here is so_far more =
     more
     ∙ ap (λ l. l ++ f (g x)) so_far

@@ -168,10 +168,8 @@ each_up (d ∷ own) up =
 
 -- each number from the base to below the limit was drawn once
 pub fresh_until : (base limit : ℕ) (own : List (List ℕ)) (draws : BatchDraws)
-    → joined draws ≡ map (map fresh_entity) own
-    → All (λ (d : List ℕ). ascends d ≡ true) own
-    → ((x : ℕ) → total (times x) own ≡ once base limit x)
-    → AreFresh base draws × (length (all_drawn draws) ≡ limit - base)
+    → joined draws ≡ map (map fresh_entity) own → All (λ (d : List ℕ). ascends d ≡ true) own
+    → ((x : ℕ) → total (times x) own ≡ once base limit x) → AreFresh base draws × (length (all_drawn draws) ≡ limit - base)
 fresh_until base limit own draws shape up each =
     let xs = concat own in
     let all : (x : ℕ) → times x xs ≡ once base limit x = λ x. times_concat x own ∙ each x in
@@ -201,10 +199,8 @@ fresh_until base limit own draws shape up each =
 
 -- what is promised of each piece's draws makes them fresh
 pub fresh_batch : (base n : ℕ) (own : List (List ℕ)) (draws : BatchDraws)
-    → joined draws ≡ map (map fresh_entity) own
-    → All (λ (d : List ℕ). ascends d ≡ true) own
-    → ((x : ℕ) → total (times x) own ≡ once base (base + n) x)
-    → AreFresh base draws × (length (all_drawn draws) ≡ n)
+    → joined draws ≡ map (map fresh_entity) own → All (λ (d : List ℕ). ascends d ≡ true) own
+    → ((x : ℕ) → total (times x) own ≡ once base (base + n) x) → AreFresh base draws × (length (all_drawn draws) ≡ n)
 fresh_batch base n own draws shape up each =
     let h = fresh_until base (base + n) own draws shape up each in
     let count = h.1 in
@@ -212,9 +208,7 @@ fresh_batch base n own draws shape up each =
 
 -- and where they ascend over all pieces, they are the fresh handles in turn
 pub ascending_batch : (base n : ℕ) (own : List (List ℕ)) (draws : BatchDraws)
-    → joined draws ≡ map (map fresh_entity) own
-    → ascends (concat own) ≡ true
-    → ((x : ℕ) → total (times x) own ≡ once base (base + n) x)
+    → joined draws ≡ map (map fresh_entity) own → ascends (concat own) ≡ true → ((x : ℕ) → total (times x) own ≡ once base (base + n) x)
     → AreAscending base draws
 ascending_batch base n own draws shape up each =
     let xs = concat own in

@@ -30,7 +30,8 @@ use std::alloc::{AllocError, Global};
 /// leaves all entities as they were.
 pub fn delete<S: Population>(alloc: Global, store: &mut S, roots: &[Entity]) -> Result<(), Refusal>
     ensures { (members : List EntityData)
-        → IsDoomedList (world_of (S.entities store.old)) (λ x. IsTrue (has_item entity_cmp roots.now x)) members
+        → IsDoomedList (world_of (S.entities store.old))
+        (λ x. IsTrue (has_item entity_cmp roots.now x)) members
         → Meets (Ends (world_of (S.entities store.old)) members) true
         (world_of (S.entities store.old)) result (world_of (S.entities store.new)) }
 {
@@ -123,7 +124,8 @@ fn plan_roots<S: Population>(
     ensures planned { IfOk result (λ p. IsDeletePlan (S.entities store.now)
         (λ x. IsTrue (has_item entity_cmp roots.now x)) p.dead.items p.changes.items) }
     ensures judged { (members : List EntityData)
-        → IsDoomedList (world_of (S.entities store.now)) (λ x. IsTrue (has_item entity_cmp roots.now x)) members
+        → IsDoomedList (world_of (S.entities store.now))
+        (λ x. IsTrue (has_item entity_cmp roots.now x)) members
         → AnswersDelete (world_of (S.entities store.now)) members result }
 {
     plan_delete(alloc, &store.places(), roots)

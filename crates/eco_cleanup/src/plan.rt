@@ -91,7 +91,8 @@ impl Ties<'_> {
     }
 
     fn changes(&self, alloc: Global, doomed: &Doomed) -> Result<Vec<TypeChange>, AllocError>
-        ensures changes { IfOk result (λ cs. cs.items ≡ changes_of self.now.places.now.slots doomed.now.nodes.keys) }
+        ensures changes { IfOk result (λ cs.
+            cs.items ≡ changes_of self.now.places.now.slots doomed.now.nodes.keys) }
         ensures ascend { IfOk result (λ cs. Ascend cs.items) }
     {
         let mut changes = Vec::new(alloc);
@@ -148,7 +149,8 @@ impl Ties<'_> {
         table: &Table,
     ) -> Result<TypeChange, AllocError>
         ensures change { IfOk result (λ c.
-            c ∷ [] ≡ change_in (taken_among self.now.places.now.slots doomed.now.nodes.keys) (Some table.now)) }
+            c ∷ [] ≡ change_in (taken_among self.now.places.now.slots doomed.now.nodes.keys)
+            (Some table.now)) }
         ensures ascend { IfOk result (λ c. IsTrue (is_ascending id_cmp c.from)) }
     {
         let from = table.type_list().try_copy()?;

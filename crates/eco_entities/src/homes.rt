@@ -50,8 +50,8 @@ impl<'a> Homes<'a> {
     #[inline]
     pub fn at(&self, index: u32) -> Option<(Entity, Place)>
         requires { index < length self.now.indices }
-        ensures { result
-            ≡ option_and_then (λ e. option_map (λ p. (e, p)) (own_place self.now e)) (entity_at self.now index) }
+        ensures { result ≡ option_and_then (λ e. option_map (λ p. (e, p)) (own_place self.now e))
+            (entity_at self.now index) }
     {
         let slot = &self.slots[index as usize];
         if !slot.is_living() {

@@ -25,7 +25,8 @@ pub trait Population {
     /// `Err` comes where memory is refused, and then no entity has changed.
     fn step(&mut self, entity: Entity, id: Id) -> Result<(), AllocError>
         requires { IsTrue (is_alive (entities self.old) entity) }
-        ensures { Tries (entities self.old) (stepped (entities self.old) (entity, id)) result (entities self.new) };
+        ensures { Tries (entities self.old) (stepped (entities self.old) (entity, id))
+            result (entities self.new) };
 
     /// The entity dies: its name is free, its row goes, and its index is free at the next generation or retired. It takes
     /// no memory.

@@ -39,7 +39,8 @@ fn run_step<R: Threads + Sync>(
     requires workers { (1 ≤ workers) × (workers ≤ 64) }
     requires keeps { KeepsTo world.old.edition (step_view step.now) }
     ensures lines { OnOk result ((lines : List ℕ)
-        × Does workers (reached world.old systems.old) (step_view step.now) lines (reached world.new systems.new)
+        × Does workers (reached world.old systems.old) (step_view step.now) lines
+        (reached world.new systems.new)
         × (string_bytes text.new ≡ string_bytes text.old ++ lines)) }
     ensures edition { world.new.edition ≡ world.old.edition }
 {

@@ -3,7 +3,8 @@ use Rattle.eco_answers.proofs.Common.{◌≡◌, ◌≢◌, ℕ, zero, suc, ◌+
 use Rattle.eco_answers.proofs.Common.{◌++◌, map, filter, length, drop, set, slice_get, get_or, Option, Some, option_map, option_to_list, refl, sym, ap}
 use Rattle.eco_answers.proofs.Common.{◌∙◌, subst, arith, add-one, append_assoc, true≢false, All, AllByRecursion, list_any, Decides-eqb, get_or-set_other}
 use Rattle.eco_answers.proofs.Common.{get_or-set_same, All-from_recursion, Contains-from_any, get_or_from_slice_get, slice_get-get_or, slice_get_within, Record}
-use Rattle.eco_answers.proofs.Common.{Entity, Id, Indexed, IndexState, Retired, Free, Living, living_from, map_state, record_of, TableState, AllHaveIds, slot_of}
+use Rattle.eco_answers.proofs.Common.{Entity, Id, Indexed, IndexState, Retired, Free, Living, living_from, map_state, record_of, TableState, AllHaveIds}
+use Rattle.eco_answers.proofs.Common.{slot_of}
 use Rattle.eco_answers.proofs.Common.{table_in, Place, Registration, IsAllFound, row_at, entities_whose, passes, IsNumbering, slot_number, standing_by}
 use Rattle.eco_answers.proofs.Common.{standing_from, standing_of, StandsIn, HasPlace, IsStore, read, record_for, record_ids, seat_at, seat_in, seat_of_place}
 use Rattle.eco_answers.proofs.Common.{type_in_store, Standing, or_right, record_at}

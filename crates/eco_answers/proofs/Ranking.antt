@@ -3,7 +3,8 @@ use Rattle.eco_answers.proofs.Common.{◌≡◌, ℕ, suc, ◌+◌, ◌<◌, Boo
 use Rattle.eco_answers.proofs.Common.{get_or, Option, Some, refl, sym, ap, ◌∙◌, subst, arith, is_lt, add-one, append_assoc, option_map, All, AllByRecursion}
 use Rattle.eco_answers.proofs.Common.{IsDistinct, list_any, IsPermutation, IsSorted, IsSortedByKey, IsTotalOrder, IsAntisymmetric, get_or-map, length-map}
 use Rattle.eco_answers.proofs.Common.{map-append, All-from_recursion, All-permutation, IsPermutation-map, Record, Entity, Id, Indexed, entity_cmp}
-use Rattle.eco_answers.proofs.Common.{AscendingAreSets, TableRow, TableState, entities_of, slot_of, table_in, is_found_by, standing_in, entities_whose, in_first}
+use Rattle.eco_answers.proofs.Common.{AscendingAreSets, TableRow, TableState, entities_of, slot_of, table_in, is_found_by, standing_in, entities_whose}
+use Rattle.eco_answers.proofs.Common.{in_first}
 use Rattle.eco_answers.proofs.Common.{AreRanked, standings, StandsIn, IsShown, record_ids, Standing}
 use Rattle.std.proofs.Common.{drop-cons}
 use Rattle.std.specs.Prelude.{slice_index_or}

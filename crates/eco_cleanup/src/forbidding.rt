@@ -115,8 +115,8 @@ impl Ties<'_> {
 
     // The least of the entities that do not die.
     fn first_outside(&self, doomed: &Doomed, entities: &[Entity]) -> Option<Entity>
-        ensures { result
-            ≡ first_outside (taken_among self.now.places.now.slots doomed.now.nodes.keys) entities.now }
+        ensures { result ≡ first_outside
+            (taken_among self.now.places.now.slots doomed.now.nodes.keys) entities.now }
     {
         let mut first = None;
         for entity in entities {

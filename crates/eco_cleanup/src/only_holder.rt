@@ -63,8 +63,8 @@ impl Ties<'_> {
     fn only_in(&self, member: Entity, node: Node) -> Option<OnlyHolder>
         requires shown { IsShown self.now.places.now.entities self.now.places.now.slots }
         requires alone { (b : NodeData) →
-            IsTrue (touches (world_of self.now.places.now.entities) self.now.places.now.slots member b)
-            → b ≡ node }
+            IsTrue (touches (world_of self.now.places.now.entities)
+            self.now.places.now.slots member b) → b ≡ node }
         ensures only { IfSome result (λ h. IsOnlyHolder self.now.places.now.entities h) }
         ensures member { IfSome result (λ h. h.member ≡ member) }
     {

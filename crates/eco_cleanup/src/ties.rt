@@ -107,8 +107,8 @@ impl Ties<'_> {
 
     // The table in a slot falls where an id of its type names the member under the policy `Delete`, else it is only named.
     fn named_node(&self, member: Entity, slot: TableSlot) -> Node
-        ensures { result ≡ named_node (world_of self.now.places.now.entities) self.now.places.now.slots
-            member slot }
+        ensures { result ≡ named_node (world_of self.now.places.now.entities)
+            self.now.places.now.slots member slot }
     {
         if self.falls(member, slot) {
             Node::Falling(slot)
@@ -118,8 +118,8 @@ impl Ties<'_> {
     }
 
     fn falls(&self, member: Entity, slot: TableSlot) -> bool
-        ensures { result ≡ falls (world_of self.now.places.now.entities) self.now.places.now.slots
-            member slot }
+        ensures { result ≡ falls (world_of self.now.places.now.entities)
+            self.now.places.now.slots member slot }
     {
         match self.table(slot) {
             Some(table) => any_deletes(self.places, member, table.type_list()),
@@ -158,8 +158,8 @@ impl Ties<'_> {
 
     /// Whether the entity is one of those who die: a root, or one who stands in a table that falls.
     pub fn dies(&self, doomed: &Doomed, entity: Entity) -> bool
-        ensures { result
-            ≡ has_item entity_cmp (taken_among self.now.places.now.slots doomed.now.nodes.keys) entity }
+        ensures { result ≡ has_item entity_cmp
+            (taken_among self.now.places.now.slots doomed.now.nodes.keys) entity }
     {
         match self.places.slot_of(entity) {
             Some(slot) => doomed.takes(entity, slot),

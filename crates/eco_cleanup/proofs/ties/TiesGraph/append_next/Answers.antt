@@ -14,7 +14,8 @@ returns-in-Root-clause-within c = all_known (world_of c.args.self.now.places.now
 pub returns-in-Falling-clause-exact : goal.returns-in-Falling-clause-exact
 returns-in-Falling-clause-exact c =
     on_ok c.append_standing.result
-    (λ come. come_of (world_of c.args.self.now.places.now.entities) c.args.self.now.places.now.slots c.args.node (Falling c.in-Falling.slot) _ _ c.in-Falling.is come)
+    (λ come. come_of (world_of c.args.self.now.places.now.entities) c.args.self.now.places.now.slots c.args.node (Falling c.in-Falling.slot) _ _
+    c.in-Falling.is come)
     c.append_standing.ensures
 
 pub returns-in-Falling-clause-within : goal.returns-in-Falling-clause-within

@@ -17,7 +17,7 @@ use Rattle.eco_world.proofs.Data.{data_lent}
 use Rattle.eco_ids.specs.Layout.{IsLayout}
 use Rattle.eco_world.proofs.Layouts.{IsTable, all_of, layout_with, mapped_from, mapped_there}
 use Rattle.eco_world.proofs.Tabled.{all_covered, found_made, made_of, table_is, with_rows}
-use Rattle.eco_world.specs.Layouts.{listed_of, shown_of}
+use Rattle.eco_world.specs.Layouts.{shown_of}
 
 -- a table as a world lists and lends it
 abbrev Lent : Type 0

@@ -33,10 +33,11 @@ mod turning;
 /// A contract sees a type, how wide the values of each id are, a list of rows, each an entity and every id of the type with
 /// its value, and `room`: so many more rows fit with no allocation.
 pub struct Table {
-    type_list: TypeList,
+    // What the move of a row touches stands first, and so in one line of the cache.
     entities: Vec<Entity>,
     columns: Vec<Column>,
     room: usize,
+    type_list: TypeList,
 }
 
 // By hand, so that dropping it is one call: a derived drop is proved anew at each early return of whoever holds it.

@@ -21,8 +21,25 @@ pub fn create_named_each(world: &mut World, names: &[String]) -> Result<(), Refu
     Ok(())
 }
 
-/// Adds each id to its entity.
+/// Adds each id to its entity. One that all calls have is handed over as it stands: to look for it in each turn would be timed
+/// with the call. So with the other calls.
 pub fn add_each(world: &mut World, work: &Work) -> Result<(), Refusal> {
+    match work.same_id() {
+        Some(id) => add_to_all(world, work.entities(), id),
+        None => add_own(world, work),
+    }
+}
+
+// Adds the id to each entity.
+fn add_to_all(world: &mut World, entities: &[Entity], id: Id) -> Result<(), Refusal> {
+    for entity in entities {
+        world.add(*entity, id)?;
+    }
+    Ok(())
+}
+
+// Adds to each entity the id of its turn.
+fn add_own(world: &mut World, work: &Work) -> Result<(), Refusal> {
     for (turn, entity) in work.entities().iter().enumerate() {
         if let Some(id) = work.id(turn) {
             world.add(*entity, id)?;
@@ -33,6 +50,22 @@ pub fn add_each(world: &mut World, work: &Work) -> Result<(), Refusal> {
 
 /// Removes each id from its entity.
 pub fn remove_each(world: &mut World, work: &Work) -> Result<(), Refusal> {
+    match work.same_id() {
+        Some(id) => remove_from_all(world, work.entities(), id),
+        None => remove_own(world, work),
+    }
+}
+
+// Removes the id from each entity.
+fn remove_from_all(world: &mut World, entities: &[Entity], id: Id) -> Result<(), Refusal> {
+    for entity in entities {
+        world.remove(*entity, id)?;
+    }
+    Ok(())
+}
+
+// Removes from each entity the id of its turn.
+fn remove_own(world: &mut World, work: &Work) -> Result<(), Refusal> {
     for (turn, entity) in work.entities().iter().enumerate() {
         if let Some(id) = work.id(turn) {
             world.remove(*entity, id)?;
@@ -52,6 +85,22 @@ pub fn toggle_each(world: &mut World, work: &Work, times: u32) -> Result<(), Ref
 
 /// Sets the id of each turn to the value, at the entity of that turn.
 pub fn set_each(world: &mut World, work: &Work, value: Value) -> Result<(), Refusal> {
+    match work.same_id() {
+        Some(id) => set_at_all(world, work.entities(), id, value),
+        None => set_own(world, work, value),
+    }
+}
+
+// Sets the id to the value at each entity.
+fn set_at_all(world: &mut World, entities: &[Entity], id: Id, value: Value) -> Result<(), Refusal> {
+    for entity in entities {
+        world.set(*entity, id, value)?;
+    }
+    Ok(())
+}
+
+// Sets the id of each turn to the value, at the entity of that turn.
+fn set_own(world: &mut World, work: &Work, value: Value) -> Result<(), Refusal> {
     for (turn, entity) in work.entities().iter().enumerate() {
         if let Some(id) = work.id(turn) {
             world.set(*entity, id, value)?;

@@ -106,6 +106,14 @@ impl Work {
         &self.entities
     }
 
+    /// The id that all calls have, where it is one.
+    pub fn same_id(&self) -> Option<Id> {
+        match &self.ids {
+            WorkIds::Same(id) => Some(*id),
+            _ => None,
+        }
+    }
+
     /// The id of the call at a turn, if there is one.
     #[inline(always)]
     pub fn id(&self, turn: usize) -> Option<Id> {

@@ -1,7 +1,7 @@
 //! What an add does, as far as that is known at a look.
 ghost use Rattle.eco_ids.specs.declared.entity.TheConstants.{SYMMETRIC as SYMMETRIC_DATA};
 ghost use Rattle.eco_ids.specs.Edition.{has_symmetric};
-ghost use Rattle.eco_ids.specs.Order.{entity_eq, has_item, id_cmp, is_ascending};
+ghost use Rattle.eco_ids.specs.Order.{entity_eq};
 ghost use Rattle.std.specs.Prelude.{◌≡◌, ◌↔◌, ◌&&◌, IfSome, IsFalse, IsTrue, Some, is_some};
 ghost use Rattle.std.specs.List.{list_any};
 ghost use Rattle.eco_ids.specs.World.{is_alive as lives};
@@ -12,9 +12,9 @@ ghost use Rattle.eco_traits.specs.Target.{IsNoTrait, IsPlain, IsSound, LacksTrai
 
 use crate::holdings::Holdings;
 use crate::implied::brings_any;
-use crate::verdict::{is_among, is_wrong_policy};
+use crate::verdict::is_wrong_policy;
 use eco_ids::entity::{ACYCLIC, EXCLUSIVE, SYMMETRIC, WITH};
-use eco_ids::{Edition, Entity, INLINE_IDS, Id, TypeList};
+use eco_ids::{Edition, Entity, Id, TypeList};
 
 /// What an add does, as far as two types tell: that of the entity to which the id comes, and that of the id's own entity,
 /// which for a pair is its relationship. Of most adds they tell all.
@@ -41,28 +41,13 @@ pub fn foresee<H: Holdings>(holdings: &H, entity: Entity, id: Id) -> Prospect
     let Some(traits) = traits_of(holdings, id) else {
         return Prospect::Dead;
     };
-    if has_already(own, id) {
+    if own.has(id) {
         return Prospect::There;
     }
     if is_plain(holdings.edition(), id, traits) {
         return Prospect::Alone;
     }
     Prospect::Open
-}
-
-// Whether the id is among those of an entity, which are mostly few: to look at each costs less than a search.
-#[inline(always)]
-fn has_already(own: &TypeList, id: Id) -> bool
-    ensures is { result ≡ has_item id_cmp own.now id }
-    ensures ascending { IsTrue (is_ascending id_cmp own.now) }
-{
-    let ids = own.as_slice();
-    if ids.len() <= INLINE_IDS {
-        return is_among(ids, id);
-    }
-    // A copy of its own, since what is handed over stands in memory: so an id that is looked for among a few need not.
-    let wanted = id;
-    own.has(wanted)
 }
 
 // The ids that say how the id behaves: those of the entity of a single id, or of the relationship of a pair; none where an

@@ -4,8 +4,8 @@ use Rattle.eco_traits.proofs.Targets.{plain_target}
 use Rattle.eco_traits.proofs.Walks.{has_listed}
 use Rattle.eco_traits.proofs.prospect.foresee.Goals as goal
 
-pub returns-then-has_already : goal.returns-then-has_already
-returns-then-has_already g c = (grind (arith, common_steps), grind (arith, common_steps, has_listed))
+pub returns-then-has : goal.returns-then-has
+returns-then-has g c = (grind (arith, common_steps), grind (arith, common_steps, has_listed))
 
 pub returns-then-is_plain : goal.returns-then-is_plain
 returns-then-is_plain g c = (

@@ -1,5 +1,5 @@
 -- Ids that values may stand at, and what a write leaves of that.
-use Rattle.eco_world.proofs.Common.{◌≡◌, ℕ, ◌&&◌, ◌∷◌, [], not, Option, None, Some, IfSome, is_some, option_and_then, true, false, refl}
+use Rattle.eco_world.proofs.Common.{◌≡◌, ℕ, Bool, MatchBool, sym, subst, ◌&&◌, ◌∷◌, [], not, Option, None, Some, IfSome, is_some, option_and_then, true, false, refl}
 use Rattle.eco_world.proofs.Common.{◌∙◌, if◌then◌else◌, option_or, Entity, Id, One, Two, Refusal, NotAlive, Reserved, DeadId, NotData, TooWide}
 use Rattle.eco_world.proofs.Common.{Value, is_builtin, arity, arity_of, fits, first_refusal, changed, is_reserved, with_value, WorldState, Record, is_alive}
 use Rattle.eco_world.proofs.Common.{names_living, changed_each, MayNotSet, IsSettable, IsUnsettable}
@@ -39,3 +39,9 @@ module _ (w : WorldState) (e : Entity) (i : Id) (v : Value) where
       IfSome known (λ s. IsSettable (changed w e (with_value i v)) s.id s.arity)
   known_still None is = tt
   known_still (Some s) is = settable_still s.id s.arity is
+
+  -- so it is whether the value was written or not
+  pub known_kept : (w2 : WorldState) (known : Option Settable) → IfSome known (λ s. IsSettable w s.id s.arity)
+      → (had : Bool) → MatchBool had (w2 ≡ changed w e (with_value i v)) (w2 ≡ w) → IfSome known (λ s. IsSettable w2 s.id s.arity)
+  known_kept w2 known is true eq = subst (λ x. IfSome known (λ s. IsSettable x s.id s.arity)) (sym eq) (known_still known is)
+  known_kept w2 known is false eq = subst (λ x. IfSome known (λ s. IsSettable x s.id s.arity)) (sym eq) is

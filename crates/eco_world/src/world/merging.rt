@@ -1,15 +1,17 @@
 //! What stages recorded is done.
-ghost use Rattle.std.specs.Prelude.{◌+◌, ◌≤◌, ◌<◌, ◌&&◌, nat_lt, length, take};
+ghost use Rattle.std.specs.Prelude.{◌+◌, ◌≤◌, ◌<◌, ◌&&◌, ◌∷◌, [], IfSome, nat_lt, length, take};
 ghost use Rattle.eco_ids.specs.Births.{Admits, MakesAlive, may_admit, may_make_alive};
 ghost use Rattle.eco_ids.specs.Outcome.{Meets};
+ghost use Rattle.eco_ids.specs.Run.{Set};
 ghost use Rattle.eco_ids.specs.World.{entities, OnEntities};
 ghost use Rattle.eco_stages.specs.Commands.{commands_of};
 ghost use Rattle.eco_stages.specs.Merging.{all_commands, AreDone};
 ghost use Rattle.eco_world.specs.Merging.{Merges, may_merge};
+ghost use Rattle.eco_world.specs.Setting.{IsSettable};
 
 use crate::settable::Settable;
 use crate::world::World;
-use eco_ids::{Entity, Refusal};
+use eco_ids::{Entity, Id, Refusal, Value};
 use eco_stages::{Command, MergeTarget, Outcomes, Report, Stage, apply_stages, room_for};
 
 impl World {
@@ -41,6 +43,30 @@ impl World {
     {
         eco_ids::laws::steps_keep_lawful();
         self.store.admit(count)
+    }
+
+    // The set is done, and its outcome appended.
+    #[inline(always)]
+    fn set_in_turn(
+        &mut self,
+        known: &mut Option<Settable>,
+        entity: Entity,
+        id: Id,
+        value: Value,
+        outcomes: &mut Outcomes,
+    )
+        requires known { IfSome known.old (λ s. IsSettable self.old s.id s.arity) }
+        requires room { length outcomes.old.outcomes < outcomes.old.room }
+        ensures done { AreDone self.old (Set entity id value ∷ []) outcomes.old outcomes.new self.new }
+        ensures known { IfSome known.new (λ s. IsSettable self.new s.id s.arity) }
+    {
+        eco_stages::laws::commands_are_done_in_turn();
+        if self.rewrite(known, entity, id, value) {
+            outcomes.push(Ok(()));
+            return;
+        }
+        let outcome = self.set_apart(known, entity, id, value);
+        outcomes.push(outcome);
     }
 
     // This very handle lives, without name and ids.
@@ -80,8 +106,7 @@ impl MergeTarget for World {
             let Command::Set(entity, id, value) = &commands[count] else {
                 return count;
             };
-            let outcome = self.set_after(&mut known, *entity, *id, *value);
-            outcomes.push(outcome);
+            self.set_in_turn(&mut known, *entity, *id, *value, outcomes);
             count += 1;
         }
         count

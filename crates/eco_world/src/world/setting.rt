@@ -1,5 +1,5 @@
 //! Sets of values, also of many at one id.
-ghost use Rattle.std.specs.Prelude.{IfErr, IfOk, IfSome, OnOk};
+ghost use Rattle.std.specs.Prelude.{◌≡◌, IfErr, IfOk, IfSome, IsFalse, IsTrue, Ok, OnOk};
 ghost use Rattle.eco_ids.specs.Outcome.{Meets};
 ghost use Rattle.eco_ids.specs.Step.{Sets, may_set};
 ghost use Rattle.eco_world.specs.Actor.{MaySet, MayNotSet};
@@ -35,6 +35,62 @@ impl World {
         // Copies, since what is handed over stands in memory: so what is written where the id is there need not.
         let (absent, first) = (id, value);
         self.set_absent(entity, absent, first)
+    }
+
+    // What `set` does at the id that is known, where the entity has it. The answer is whether it is done; else nothing changes. It
+    // makes no refusal, so that most sets of a merge keep no room for one.
+    #[inline(always)]
+    pub(crate) fn rewrite(
+        &mut self,
+        known: &Option<Settable>,
+        entity: Entity,
+        id: Id,
+        value: Value,
+    ) -> bool
+        requires { IfSome known.now (λ s. IsSettable self.old s.id s.arity) }
+        ensures met { IsTrue result → Meets (Sets self.old entity id value) (may_set self.old entity id value)
+            self.old (Ok tt) self.new }
+        ensures known { IfSome known.now (λ s. IsSettable self.new s.id s.arity) }
+        ensures same { IsFalse result → self.new ≡ self.old }
+    {
+        eco_ids::laws::steps_keep_lawful();
+        self.is_lawful();
+        if !self.may_rewrite(known, entity, id, value) {
+            return false;
+        }
+        self.write(entity, id, value)
+    }
+
+    // Whether this is the id that is known, and nothing stands against the value there.
+    #[inline(always)]
+    fn may_rewrite(&self, known: &Option<Settable>, entity: Entity, id: Id, value: Value) -> bool
+        requires { IfSome known.now (λ s. IsSettable self.now s.id s.arity) }
+        ensures { IsTrue result → MaySet self.now entity id value }
+    {
+        let Some(settable) = known else {
+            return false;
+        };
+        if !settable.id.is(id) || !self.is_alive(entity) || self.is_reserved(entity, id) {
+            return false;
+        }
+        is_zero_past(value, settable.arity)
+    }
+
+    // What `set_after` does, apart.
+    #[inline(never)]
+    pub(crate) fn set_apart(
+        &mut self,
+        known: &mut Option<Settable>,
+        entity: Entity,
+        id: Id,
+        value: Value,
+    ) -> Result<(), Refusal>
+        requires { IfSome known.old (λ s. IsSettable self.old s.id s.arity) }
+        ensures met { Meets (Sets self.old entity id value) (may_set self.old entity id value)
+            self.old result self.new }
+        ensures known { IfSome known.new (λ s. IsSettable self.new s.id s.arity) }
+    {
+        self.set_after(known, entity, id, value)
     }
 
     // Whether the entity may have this value at the id.

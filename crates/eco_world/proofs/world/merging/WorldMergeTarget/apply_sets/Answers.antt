@@ -5,8 +5,8 @@ use Rattle.eco_world.proofs.world.merging.WorldMergeTarget.apply_sets.Goals as g
 pub loop-count-init : goal.loop-count-init
 loop-count-init c = record { within = omega arith; are_done = c.commands_are_done_in_turn.ensures.none c.args.self.now c.args.outcomes.now; known = tt }
 
-pub push-requires : goal.push-requires
-push-requires c =
+pub set_in_turn-requires-clause-room : goal.set_in_turn-requires-clause-room
+set_in_turn-requires-clause-room c =
     let laws = c.commands_are_done_in_turn.ensures in
     let i = c.loop-count.count in
     let cs = c.args.commands.now in
@@ -23,13 +23,11 @@ loop-count-preserved c =
     let set = run.Set c.in-Set.entity c.in-Set.id c.in-Set.value in
     let more = map_more command_of cs i c.index-commands-count.result c.loop-count-test.true
     ∙ ap (λ y. commands_of (take i cs) ++ command_of y ∷ []) (sym c.index-commands-count.is ∙ c.in-Set.is) in
-    let one = laws.one c.loop-count.self c.set_after-outcome.new.self set c.set_after-outcome.result c.loop-count.outcomes c.push.new.self
-    c.push.ensures.written c.push.ensures.room c.set_after-outcome.ensures.met in
     record {
       within = omega (arith, c.loop-count-test.true);
       are_done =
           rw more
-          (laws.both c.args.self.now c.loop-count.self c.set_after-outcome.new.self (commands_of (take i cs)) (set ∷ [])
-          c.args.outcomes.now c.loop-count.outcomes c.push.new.self was.are_done one);
-      known = c.set_after-outcome.ensures.known;
+          (laws.both c.args.self.now c.loop-count.self c.set_in_turn.new.self (commands_of (take i cs)) (set ∷ [])
+          c.args.outcomes.now c.loop-count.outcomes c.set_in_turn.new.outcomes was.are_done c.set_in_turn.ensures.done);
+      known = c.set_in_turn.ensures.known;
     }

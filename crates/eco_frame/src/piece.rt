@@ -23,6 +23,7 @@ pub(crate) struct RowsPiece<'a, B> {
     ghost within: { end ≤ length rows.now },
 }
 
+// By hand, so that dropping it is one call: a derived drop is proved anew at each early return of whoever holds it.
 impl<B> Drop for RowsPiece<'_, B> {
     fn drop(self) {
         let RowsPiece {

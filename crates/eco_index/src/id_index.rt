@@ -187,6 +187,7 @@ impl IdIndex {
         }
     }
 
+    // Lists the slot under these keys. An `Err` may leave it listed under some of them.
     fn add_keys(&mut self, alloc: Global, keys: &[Key], slot: TableSlot) -> Result<(), AllocError>
         ensures ok { OnOk result
             (Turns true (has_one keys.now) (lists_in self.old) (lists_in self.new) slot) }
@@ -256,6 +257,7 @@ impl IdIndex {
         }
     }
 
+    // Lists the slot under the keys of these ids. An `Err` may leave it listed under some of them.
     fn add_each(&mut self, alloc: Global, ids: &[Id], slot: TableSlot) -> Result<(), AllocError>
         ensures ok { OnOk result
             (Turns true (any_matches ids.now) (lists_in self.old) (lists_in self.new) slot) }

@@ -209,9 +209,14 @@ pub fn push_from(columns: &mut [Column], source: &[Column], row: usize)
     requires widths { ColumnsAgree columns.old source.now }
     ensures { columns.new ≡ map (λ c. pushed c (value_in (held_in source.now row) c.id)) columns.old }
 {
-    if !columns.is_empty() {
-        push_each_from(columns, source, row);
+    if columns.is_empty() {
+        return;
     }
+    if source.is_empty() {
+        push_zeros(columns);
+        return;
+    }
+    push_each_from(columns, source, row);
 }
 
 // What `push_from` does where there are columns, apart, so that rows without values cost no more than a look at them.

@@ -110,6 +110,7 @@ fn has_with<H: Holdings>(holdings: &H, entity: Entity) -> bool
 }
 
 /// Whether a pair of With is among the ids.
+#[inline(always)]
 pub(crate) fn brings_any(ids: &TypeList) -> bool
     ensures { IsTrue result ↔ ((x : EntityData) × IsTrue (has_item id_cmp ids.now (Two WITH_DATA x))) }
 {

@@ -11,6 +11,6 @@ mod walk;
 
 pub use holdings::Holdings;
 pub use implied::closure;
-pub use prospect::{Prospect, foresee};
+pub use prospect::{Prospect, comes_alone, foresee};
 pub use target::{Target, open_target, target_type};
 pub use walk::{has, reached, reaches};

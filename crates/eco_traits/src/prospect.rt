@@ -2,16 +2,17 @@
 ghost use Rattle.eco_ids.specs.declared.entity.TheConstants.{SYMMETRIC as SYMMETRIC_DATA};
 ghost use Rattle.eco_ids.specs.Edition.{has_symmetric};
 ghost use Rattle.eco_ids.specs.Order.{entity_eq};
-ghost use Rattle.std.specs.Prelude.{◌≡◌, ◌↔◌, ◌&&◌, IfSome, IsFalse, IsTrue, Some, is_some};
+ghost use Rattle.std.specs.Prelude.{◌≡◌, ◌↔◌, ◌&&◌, IfSome, IsFalse, IsTrue, Some, false, is_some, true};
 ghost use Rattle.std.specs.List.{list_any};
 ghost use Rattle.eco_ids.specs.World.{is_alive as lives};
 ghost use Rattle.eco_ids.specs.World as world;
 ghost use Rattle.eco_traits.specs.Closure.{head_of};
 ghost use Rattle.eco_traits.specs.Prospect.{Foresees, is_trait};
+ghost use Rattle.eco_traits.specs.declared.prospect.Prospect.TheVariants.{Alone};
 ghost use Rattle.eco_traits.specs.Target.{IsNoTrait, IsPlain, IsSound, LacksTraits, type_of_entity};
 
 use crate::holdings::Holdings;
-use crate::implied::brings_any;
+use crate::implied::{brings_any, head_of};
 use crate::verdict::is_wrong_policy;
 use eco_ids::entity::{ACYCLIC, EXCLUSIVE, SYMMETRIC, WITH};
 use eco_ids::{Edition, Entity, Id, TypeList};
@@ -48,6 +49,23 @@ pub fn foresee<H: Holdings>(holdings: &H, entity: Entity, id: Id) -> Prospect
         return Prospect::Alone;
     }
     Prospect::Open
+}
+
+/// Whether [`foresee`] says [`Prospect::Alone`] of an id that the entity lacks, and in which each entity lives. What is known
+/// of the id is not asked again.
+#[inline(always)]
+#[tactic(auto, using(crate::proofs::Plain::head_lives))]
+pub fn comes_alone<H: Holdings>(holdings: &H, entity: Entity, id: Id) -> bool
+    requires alive { IsTrue (lives (H.world holdings.now) entity) }
+    requires living { world.names_living (H.world holdings.now) id ≡ true }
+    requires absent { world.has (H.world holdings.now) entity id ≡ false }
+    requires sound { IsSound (H.world holdings.now) }
+    ensures { IsTrue result → Foresees (H.world holdings.now) entity id Alone }
+{
+    // The entity's ids ascend, so that the id has one place among them.
+    let _own = holdings.type_of(entity).unwrap().as_slice();
+    let traits = holdings.type_of(head_of(id)).unwrap();
+    is_plain(holdings.edition(), id, traits)
 }
 
 // The ids that say how the id behaves: those of the entity of a single id, or of the relationship of a pair; none where an

@@ -168,7 +168,7 @@ fn is_action(target: Entity) -> bool
 }
 
 /// Whether the id is one of these, which are few.
-#[inline]
+#[inline(always)]
 pub(crate) fn is_among(ids: &[Id], id: Id) -> bool
     ensures { result ≡ has_item id_cmp ids.now id }
 {

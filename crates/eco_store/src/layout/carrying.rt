@@ -47,6 +47,6 @@ impl Layout {
         let filler = self.archetypes.move_row(place.table, place.row, to);
         fix_place(&mut self.entities, filler, place);
         self.entities.set_place(e, Place { table: to, row });
-        self.release(place.table);
+        self.release_row(place);
     }
 }

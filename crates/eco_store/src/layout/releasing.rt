@@ -1,9 +1,10 @@
 //! Tables that lost their last row stay, or go.
-ghost use Rattle.std.specs.Prelude.{◌≡◌, ◌≤◌, IsTrue};
+ghost use Rattle.std.specs.Prelude.{◌≡◌, ◌≤◌, length, IsTrue};
 ghost use Rattle.eco_store.specs.Layout.{seen, IsLaid, IsLaidBeside, IsSettled, Releases};
 ghost use Rattle.eco_tables.specs.Tables.{table_in};
 
 use crate::layout::Layout;
+use eco_entities::Place;
 use eco_ids::TableSlot;
 use eco_tables::Tables;
 
@@ -44,6 +45,19 @@ impl Layout {
             && (is_large(self.archetypes.tables(), slot) || !self.staying.is_resting(slot))
         {
             self.leave(slot);
+        }
+    }
+
+    /// What [`release`](Layout::release) does for a row that stood in this place. The row's table is looked at only where no
+    /// other row can stand before the place.
+    #[inline(always)]
+    pub(crate) fn release_row(&mut self, place: Place)
+        requires beside { IsLaidBeside self.old place.table }
+        requires behind { place.row ≤ length (table_in self.old.archetypes place.table).rows }
+        ensures { Releases self.old self.new }
+    {
+        if place.row == 0 {
+            self.release(place.table);
         }
     }
 

@@ -17,7 +17,9 @@ impl Store {
     {
         let place = self.layout.place_of(e);
         let Some(led) = self.layout.archetypes.lead(place.table, id) else {
-            return self.step_anew(e, id);
+            // A copy of its own, since what is handed over stands in memory: so an id that an edge is stored for need not.
+            let new = id;
+            return self.step_anew(e, new);
         };
         let to = self
             .layout

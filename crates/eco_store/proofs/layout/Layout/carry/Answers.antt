@@ -1,4 +1,4 @@
-use Rattle.eco_store.proofs.Common.{length, refl, ap, ◌∙◌, changed, Place, placed, there_by_room, there_by_row, rows_in, all_staying, read}
+use Rattle.eco_store.proofs.Common.{arith, length, length-swap_remove, no_row, no_table, unwrap_or, refl, ap, ◌∙◌, changed, Place, placed, there_by_room, there_by_row, rows_in, all_staying, read}
 use Rattle.eco_store.proofs.Coming.{admits_row}
 use Rattle.eco_store.proofs.Laid.{seen_alike}
 use Rattle.eco_store.proofs.LaidRows.{row_moves}
@@ -45,8 +45,8 @@ set_place-requires-clause-fits c =
     end_fits c.args.self.now.entities c.args.self.now.archetypes c.args.to _ c.rules.ensures c.requires.laid.store
     (c.row_count-row.ensures ∙ ap (λ s. length (rows_in s c.args.to)) c.tables.ensures.same)
 
-pub release-requires : goal.release-requires
-release-requires c =
+pub release_row-requires-clause-beside : goal.release_row-requires-clause-beside
+release_row-requires-clause-beside c =
     let l = c.args.self.now in
     let n = c.args.to in
     let p = c.args.place in
@@ -66,6 +66,14 @@ release-requires c =
       tidy = rowless_moved l.archetypes _ p.table p.row n (all_staying l.staying) c.move_row-filler.ensures.moves c.requires.laid.tidy;
     }
 
+pub release_row-requires-clause-behind : goal.release_row-requires-clause-behind
+release_row-requires-clause-behind c =
+    let l = c.args.self.now in
+    let p = c.args.place in
+    let within = row_within l.entities l.archetypes c.args.e p c.requires.laid.store c.requires.own in
+    let left = ap (λ o. length (unwrap_or o no_table).rows) c.move_row-filler.ensures.moves.source in
+    omega (arith, within, left, length-swap_remove (rows_in l.archetypes p.table) p.row no_row)
+
 pub returns : goal.returns
 returns c =
     let l = c.args.self.now in
@@ -81,14 +89,14 @@ returns c =
     c.move_row-filler.ensures.moved in
     record {
       carries = record {
-        laid = c.release.ensures.laid;
-        staying = c.release.ensures.staying;
+        laid = c.release_row.ensures.laid;
+        staying = c.release_row.ensures.staying;
         admits =
-            admits_row s s1 c.release.new.self.archetypes p.table p.row n l.staying.targets (there_by_row s p.table p.row there)
-            (there_by_room s n c.requires.room) c.move_row-filler.ensures.moves c.release.ensures.targets;
+            admits_row s s1 c.release_row.new.self.archetypes p.table p.row n l.staying.targets (there_by_row s p.table p.row there)
+            (there_by_room s n c.requires.room) c.move_row-filler.ensures.moves c.release_row.ensures.targets;
       };
       seen =
-          seen_alike c.set_place.new.self s1 c.release.new.self c.release.ensures.entities c.release.ensures.rows
+          seen_alike c.set_place.new.self s1 c.release_row.new.self c.release_row.ensures.entities c.release_row.ensures.rows
           ∙ ap (λ v. read v s1) (c.set_place.ensures ∙ ap (λ v. changed v c.args.e (placed to)) c.fix_place.ensures)
           ∙ changes.to_read l.entities s s1 c.args.e p _ c.requires.laid.store c.requires.own moves.source moves.filled to _ moves;
     }

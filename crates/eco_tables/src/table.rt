@@ -190,6 +190,7 @@ impl Table {
 
     /// Writes that one value, which is no wider than the id's, and takes no memory. The answer is whether the type has the
     /// id; where it lacks it nothing is written.
+    #[inline(always)]
     pub fn set_value(&mut self, row: usize, id: Id, value: Value) -> bool
         requires row { row < length self.old.rows }
         requires fits { FitsId self.old id value }

@@ -217,6 +217,7 @@ impl Tables {
 
     /// Writes the value of an id in a row, and takes no memory. The answer is whether the table's type has the id; where it
     /// lacks it nothing is written.
+    #[inline(always)]
     pub fn set_value(&mut self, slot: TableSlot, row: usize, id: Id, value: Value) -> bool
         requires row { row < length (table_in self.old slot).rows }
         requires fits { FitsId (table_in self.old slot) id value }

@@ -11,6 +11,7 @@ use std::alloc::AllocError;
 impl Store {
     /// Gives an entity an id that it lacks, with zeros, or takes one away that it has. The values of its other ids stay. An
     /// `Err` comes where memory is refused, and then no entity has changed.
+    #[inline(always)]
     pub fn step(&mut self, e: Entity, id: Id) -> Result<(), AllocError>
         requires { IsTrue (is_alive self.old.entities e) }
         ensures { Tries self.old.entities (stepped self.old.entities (e, id)) result self.new.entities }

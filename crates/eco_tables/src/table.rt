@@ -20,7 +20,7 @@ use crate::columns::{
     push_zeros, reserve, swap_out_row, write_value,
 };
 use crate::values::Values;
-use eco_ids::{Entity, INLINE_IDS, Id, TypeList, Value};
+use eco_ids::{Entity, Id, TypeList, Value};
 use std::alloc::{AllocError, Global};
 use std::marker::Model;
 use std::mem;
@@ -198,7 +198,7 @@ impl Table {
         ensures had { result ≡ is_some (find id_cmp id (slice_index_or self.old.rows row no_row).held) }
     {
         // An id without a column has zeros, and gets none but those.
-        write_value(self.columns.as_mut_slice(), row, id, value) || has_id(&self.type_list, id)
+        write_value(self.columns.as_mut_slice(), row, id, value) || self.type_list.has(id)
     }
 
     /// Room for more rows. An `Err` keeps all rows and the room that was there.
@@ -388,20 +388,6 @@ impl Table {
         } = self;
         type_list
     }
-}
-
-// Whether the id is among those of a type, which are mostly few: to look at each costs less than a call.
-#[inline(always)]
-fn has_id(type_list: &TypeList, id: Id) -> bool
-    ensures { result ≡ has_item id_cmp type_list.now id }
-{
-    let ids = type_list.as_slice();
-    if ids.len() <= INLINE_IDS {
-        return ids.iter().any(|own| own.is(id));
-    }
-    // A copy of its own, since what is handed over stands in memory: so an id that is looked for among a few need not.
-    let wanted = id;
-    type_list.has(wanted)
 }
 
 // The entity that stands in a row.

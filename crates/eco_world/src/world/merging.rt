@@ -52,16 +52,16 @@ impl World {
         known: &mut Option<Settable>,
         entity: Entity,
         id: Id,
-        value: Value,
+        value: &Value,
         outcomes: &mut Outcomes,
     )
         requires known { IfSome known.old (λ s. IsSettable self.old s.id s.arity) }
         requires room { length outcomes.old.outcomes < outcomes.old.room }
-        ensures done { AreDone self.old (Set entity id value ∷ []) outcomes.old outcomes.new self.new }
+        ensures done { AreDone self.old (Set entity id value.now ∷ []) outcomes.old outcomes.new self.new }
         ensures known { IfSome known.new (λ s. IsSettable self.new s.id s.arity) }
     {
         eco_stages::laws::commands_are_done_in_turn();
-        if self.rewrite(known, entity, id, value) {
+        if self.rewrite(known, entity, id, *value) {
             outcomes.push(Ok(()));
             return;
         }
@@ -106,7 +106,7 @@ impl MergeTarget for World {
             let Command::Set(entity, id, value) = &commands[count] else {
                 return count;
             };
-            self.set_in_turn(&mut known, *entity, *id, *value, outcomes);
+            self.set_in_turn(&mut known, *entity, *id, value, outcomes);
             count += 1;
         }
         count

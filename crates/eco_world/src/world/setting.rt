@@ -83,14 +83,14 @@ impl World {
         known: &mut Option<Settable>,
         entity: Entity,
         id: Id,
-        value: Value,
+        value: &Value,
     ) -> Result<(), Refusal>
         requires { IfSome known.old (λ s. IsSettable self.old s.id s.arity) }
-        ensures met { Meets (Sets self.old entity id value) (may_set self.old entity id value)
+        ensures met { Meets (Sets self.old entity id value.now) (may_set self.old entity id value.now)
             self.old result self.new }
         ensures known { IfSome known.new (λ s. IsSettable self.new s.id s.arity) }
     {
-        self.set_after(known, entity, id, value)
+        self.set_after(known, entity, id, *value)
     }
 
     // Whether the entity may have this value at the id.

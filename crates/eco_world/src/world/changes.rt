@@ -24,7 +24,7 @@ ghost use Rattle.eco_places.specs.Records.{record_ids, with_exchanged, with_togg
 use crate::world::World;
 use eco_ids::entity::{ON_DELETE, PANIC};
 use eco_ids::{Entity, Id, Refusal, TypeList, Value};
-use eco_traits::{Prospect, Target, foresee, open_target};
+use eco_traits::{Prospect, Target, comes_alone, foresee, open_target};
 use std::alloc::{AllocError, Global};
 
 // Whether all these fields are 0.
@@ -179,18 +179,41 @@ impl World {
 
     // What `set` does where the entity lacks the id, apart, so that a write of what is there needs no room for what this one keeps.
     #[inline(never)]
-    pub(crate) fn set_absent(&mut self, entity: Entity, id: Id, value: Value) -> Result<(), Refusal>
-        requires may { MaySet self.old entity id value }
+    pub(crate) fn set_absent(
+        &mut self,
+        entity: Entity,
+        id: Id,
+        value: &Value,
+    ) -> Result<(), Refusal>
+        requires may { MaySet self.old entity id value.now }
         requires absent { has self.old entity id ≡ false }
-        ensures { Meets (Sets self.old entity id value) (may_set self.old entity id value)
+        ensures { Meets (Sets self.old entity id value.now) (may_set self.old entity id value.now)
             self.old result self.new }
     {
         eco_ids::laws::steps_keep_lawful();
         eco_ids::laws::add_adds_once();
         self.is_lawful();
-        self.gain(entity, id)?;
-        self.write(entity, id, value);
+        self.gain_absent(entity, id)?;
+        self.write(entity, id, *value);
         Ok(())
+    }
+
+    // What `gain` does with an id that the entity lacks, and in which each entity lives.
+    #[inline(always)]
+    fn gain_absent(&mut self, entity: Entity, id: Id) -> Result<(), Refusal>
+        requires alive { is_alive self.old entity ≡ true }
+        requires free { is_reserved self.old entity id ≡ false }
+        requires living { names_living self.old id ≡ true }
+        requires absent { has self.old entity id ≡ false }
+        ensures { Meets (Adds self.old entity id) (may_add self.old entity id) self.old result self.new }
+    {
+        eco_ids::laws::steps_keep_lawful();
+        eco_ids::laws::add_leaves_exactly();
+        self.is_lawful();
+        if comes_alone(self, entity, id) {
+            return Ok(self.step(entity, id)?);
+        }
+        self.extend(entity, id)
     }
 
     // Whether each entity in the id lives.
@@ -279,6 +302,7 @@ impl World {
     }
 
     // The entity loses an id that it has. An `Err` leaves everything.
+    #[inline(always)]
     fn take_away(&mut self, entity: Entity, id: Id) -> Result<(), AllocError>
         requires alive { is_alive self.old entity ≡ true }
         requires ordinary { is_builtin self.old entity ≡ false }
@@ -296,6 +320,7 @@ impl World {
     }
 
     // The entity has the id if it lacked it, with zeros, and lacks it if it had it. An `Err` leaves everything.
+    #[inline(always)]
     fn step(&mut self, entity: Entity, id: Id) -> Result<(), AllocError>
         requires alive { is_alive self.old entity ≡ true }
         requires lawful { IsLawful (changed self.old entity (with_toggled id)) }

@@ -4,7 +4,8 @@ ghost use Rattle.eco_ids.specs.Births.{Admits, MakesAlive, may_admit, may_make_a
 ghost use Rattle.eco_ids.specs.Outcome.{Meets};
 ghost use Rattle.eco_ids.specs.Run.{Set};
 ghost use Rattle.eco_ids.specs.World.{entities, OnEntities};
-ghost use Rattle.eco_stages.specs.Commands.{commands_of};
+ghost use Rattle.eco_ids.specs.Run.{Applies, may_want};
+ghost use Rattle.eco_stages.specs.Commands.{command_of, commands_of};
 ghost use Rattle.eco_stages.specs.Merging.{all_commands, AreDone};
 ghost use Rattle.eco_world.specs.Merging.{Merges, may_merge};
 ghost use Rattle.eco_world.specs.Setting.{IsSettable};
@@ -77,12 +78,14 @@ impl World {
         eco_ids::laws::steps_keep_lawful();
         self.store.make_alive(entity)
     }
-}
 
-impl MergeTarget for World {
-    ghost world = { λ w. w };
-
-    fn apply(&mut self, command: &Command) -> Result<(), Refusal> {
+    // What `apply` does, also with a command that is rare in long stages. Apart, so that what these keep takes no room where
+    // entities come and get ids.
+    #[inline(never)]
+    fn apply_rest(&mut self, command: &Command) -> Result<(), Refusal>
+        ensures { Meets (Applies (command_of command.now) self.old)
+            (may_want (command_of command.now) self.old) self.old result self.new }
+    {
         match command {
             Command::Create(entity) => self.make_alive(*entity),
             Command::Add(entity, id) => self.add(*entity, *id),
@@ -93,6 +96,18 @@ impl MergeTarget for World {
             Command::Delete(entity) => self.delete(*entity),
             Command::DeleteWith(id) => self.delete_with(*id),
             Command::RemoveAll(id) => self.remove_all(*id),
+        }
+    }
+}
+
+impl MergeTarget for World {
+    ghost world = { λ w. w };
+
+    fn apply(&mut self, command: &Command) -> Result<(), Refusal> {
+        match command {
+            Command::Create(entity) => self.make_alive(*entity),
+            Command::Add(entity, id) => self.add(*entity, *id),
+            _ => self.apply_rest(command),
         }
     }
 

@@ -34,7 +34,7 @@ impl World {
         *known = None;
         // Copies, since what is handed over stands in memory: so what is written where the id is there need not.
         let (absent, first) = (id, value);
-        self.set_absent(entity, absent, first)
+        self.set_absent(entity, absent, &first)
     }
 
     // What `set` does at the id that is known, where the entity has it. The answer is whether it is done; else nothing changes. It

@@ -376,6 +376,7 @@ impl Column {
     }
 
     /// Writes the value in a row.
+    #[inline(always)]
     pub fn write(&mut self, row: usize, value: Value)
         requires row { row < length self.old.values }
         requires fits { Fits self.old.width value }

@@ -1,5 +1,6 @@
 -- Which tables are without rows, after rows came and went.
-use Rattle.eco_store.proofs.Common.{◌≡◌, ◌≢◌, ◌<◌, ℕ, Bool, true, false, ◌||◌, IsTrue, List, [], ◌∷◌, ◌++◌, length, Option, Some, None}
+use Rattle.eco_store.proofs.Common.{◌≡◌, ◌≢◌, ◌<◌, ℕ, Bool, true, false, ◌||◌, IsTrue, List, []}
+use Rattle.eco_store.proofs.Common.{◌∷◌, ◌++◌, length, Option, Some, None}
 use Rattle.eco_store.proofs.Common.{unwrap_or, IsSome, zero, suc, is_some, nat_eq, slice_get, slice_set, refl, sym, ap, subst, ◌∙◌, arith, inl, inr}
 use Rattle.eco_store.proofs.Common.{list_any, cases_eq, length-append, TableState, TableRow, slot_of, table_in, no_table, rowless, rowless_type, SetsSlot}
 use Rattle.eco_store.proofs.Common.{Moves, with_row, not_equal, is_rowless, RowlessIn, SameRows, SameTypes, Transfer, IsNamed, Pours, StayingState, all_staying}
@@ -46,7 +47,8 @@ rowless_twice s n slots among =
     (λ m other there. sym (ap (λ b. b || list_any (nat_eq m) slots) (not_equal m n other)) ∙ there))
 
 -- a table that has rows is none of those without
-pub rowless_kept : (s : List (Option TableState)) (n : ℕ) (slots : List ℕ) → 0 < length (table_in s n).rows → RowlessIn s (n ∷ slots) → RowlessIn s slots
+pub rowless_kept : (s : List (Option TableState)) (n : ℕ) (slots : List ℕ) → 0 < length (table_in s n).rows → RowlessIn s (n ∷ slots)
+    → RowlessIn s slots
 rowless_kept s n slots some was =
     at_each n (λ m. IsTrue (is_rowless s m) → IsTrue (list_any (nat_eq m) slots))
     (λ empty. absurd (omega (arith, ap length (rowless_there s n empty).1, some)))

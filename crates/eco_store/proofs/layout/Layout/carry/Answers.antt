@@ -1,4 +1,5 @@
-use Rattle.eco_store.proofs.Common.{arith, length, length-swap_remove, no_row, no_table, unwrap_or, refl, ap, ◌∙◌, changed, Place, placed, there_by_room, there_by_row, rows_in, all_staying, read}
+use Rattle.eco_store.proofs.Common.{arith, length, length-swap_remove, no_row, no_table, unwrap_or}
+use Rattle.eco_store.proofs.Common.{refl, ap, ◌∙◌, changed, Place, placed, there_by_room, there_by_row, rows_in, all_staying, read}
 use Rattle.eco_store.proofs.Coming.{admits_row}
 use Rattle.eco_store.proofs.Laid.{seen_alike}
 use Rattle.eco_store.proofs.LaidRows.{row_moves}

@@ -18,7 +18,8 @@ after : (c : goal.In_ok-gain_absent) → IsSetAfter c.args.self.now c.args.entit
 after c =
     set_after c.args.self.now c.args.entity c.args.id c.args.value.now c.requires.may c.is_lawful.ensures
     (c.steps_keep_lawful.ensures.set c.args.entity c.args.id c.args.value.now) c.requires.absent c.add_adds_once.ensures c.gain_absent.new.self
-    (extended c.args.self.now c.args.entity c.args.id c.args.value.now c.requires.may c.requires.absent (Ok tt) c.gain_absent.new.self c.in_ok-gain_absent.ensures)
+    (extended c.args.self.now c.args.entity c.args.id c.args.value.now c.requires.may c.requires.absent
+    (Ok tt) c.gain_absent.new.self c.in_ok-gain_absent.ensures)
 
 pub write-requires-clause-alive : goal.write-requires-clause-alive
 write-requires-clause-alive c = (after (goal.at.write-requires-clause-alive c).In_ok-gain_absent).alive

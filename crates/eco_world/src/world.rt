@@ -11,7 +11,7 @@ ghost use Rattle.eco_ids.specs.Edition.{builtin_count};
 ghost use Rattle.eco_ids.specs.Lawful.{IsLawful};
 ghost use Rattle.eco_ids.specs.Layout.{IsLayout, ListedTable};
 ghost use Rattle.eco_ids.specs.Names.{lookup};
-ghost use Rattle.eco_ids.specs.Order.{has_item, id_cmp, is_ascending};
+ghost use Rattle.eco_ids.specs.Order.{id_cmp, is_ascending};
 ghost use Rattle.eco_ids.specs.Step.{own_name};
 ghost use Rattle.eco_ids.specs.World.{entities, first_world, has, held_by, is_alive, living, record_of, world_of_edition};
 ghost use Rattle.eco_entities.specs.Registration.{entity_at};
@@ -26,7 +26,7 @@ use crate::kept_query::KeptQuery;
 use crate::table_rows::TableRows;
 use crate::world::changes::is_zero_past;
 use eco_grammar::Names;
-use eco_ids::{Edition, Entity, INLINE_IDS, Id, Pattern, Refusal, TypeList, Value};
+use eco_ids::{Edition, Entity, Id, Pattern, Refusal, TypeList, Value};
 use eco_store::{Seed, Store, Table};
 use std::alloc::{AllocError, Global};
 use std::marker::Model;
@@ -82,20 +82,6 @@ impl Model for World {
     ghost view = { λ w. world_with w.edition w.store.entities (asked_by w.queries.items) };
 
     ghost invariant = { λ w. IsLawful (world_with w.edition w.store.entities (asked_by w.queries.items)) };
-}
-
-// Whether the id is among those of a type, which are mostly few: to look at each costs less than a call.
-#[inline(always)]
-fn has_id(type_list: &TypeList, id: Id) -> bool
-    ensures { result ≡ has_item id_cmp type_list.now id }
-{
-    let ids = type_list.as_slice();
-    if ids.len() <= INLINE_IDS {
-        return ids.iter().any(|own| own.is(id));
-    }
-    // A copy of its own, since what is handed over stands in memory: so an id that is looked for among a few need not.
-    let wanted = id;
-    type_list.has(wanted)
 }
 
 impl World {
@@ -223,7 +209,7 @@ impl World {
         ensures { result ≡ has self.now entity id }
     {
         match self.own_type(entity) {
-            Some(ids) => has_id(ids, id),
+            Some(ids) => ids.has(id),
             None => false,
         }
     }

@@ -2,9 +2,8 @@
 ghost use Rattle.std.specs.Prelude.{◌+◌, ◌≤◌, ◌<◌, ◌&&◌, ◌∷◌, [], IfSome, nat_lt, length, take};
 ghost use Rattle.eco_ids.specs.Births.{Admits, MakesAlive, may_admit, may_make_alive};
 ghost use Rattle.eco_ids.specs.Outcome.{Meets};
-ghost use Rattle.eco_ids.specs.Run.{Set};
+ghost use Rattle.eco_ids.specs.Run.{Applies, Set, may_want};
 ghost use Rattle.eco_ids.specs.World.{entities, OnEntities};
-ghost use Rattle.eco_ids.specs.Run.{Applies, may_want};
 ghost use Rattle.eco_stages.specs.Commands.{command_of, commands_of};
 ghost use Rattle.eco_stages.specs.Merging.{all_commands, AreDone};
 ghost use Rattle.eco_world.specs.Merging.{Merges, may_merge};

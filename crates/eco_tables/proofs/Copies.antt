@@ -1,7 +1,7 @@
 -- All tables once more, without room.
 use Rattle.eco_tables.proofs.Common.{◌≡◌, ℕ, zero, suc, ◌+◌, ◌≤◌, ◌<◌, ◌++◌, take, get_or, cond, List, [], ◌∷◌, length, Option}
 use Rattle.eco_tables.proofs.Common.{Some, None, unwrap_or, is_some, map, refl, sym, ap, ◌∙◌, arith, subst, count_by, length-map, map-append, take_more}
-use Rattle.eco_tables.proofs.Common.{TableState, RowsHaveIds, slot_of, no_table, without_room, AreSlots}
+use Rattle.eco_tables.proofs.Common.{TableState, RowsHaveIds, TypeAscends, slot_of, no_table, without_room, AreSlots}
 use Rattle.std.proofs.lemmas.List.Recursion.{is_count_by}
 
 pub slot_copied : (slots : List (Option TableState)) (n : ℕ) → slot_of (map without_room slots) n ≡ without_room (slot_of slots n)
@@ -38,11 +38,17 @@ slots_copied slots vacant capacity room are ready =
       ready = omega (arith, ready, len);
       have_ids = λ n.
           subst (λ o. RowsHaveIds (unwrap_or o no_table)) (sym (slot_copied slots n)) (still (slot_of slots n) (are.have_ids n));
+      ascend = λ n.
+          subst (λ o. TypeAscends (unwrap_or o no_table)) (sym (slot_copied slots n)) (rises (slot_of slots n) (are.ascend n));
     }
   where
     still : (o : Option TableState) → RowsHaveIds (unwrap_or o no_table) → RowsHaveIds (unwrap_or (without_room o) no_table)
     still None has = has
     still (Some t) has = has
+
+    rises : (o : Option TableState) → TypeAscends (unwrap_or o no_table) → TypeAscends (unwrap_or (without_room o) no_table)
+    rises None up = up
+    rises (Some t) up = up
 
 -- one more turn of a loop that copies what it is shown
 pub pushed_more : {X Y : Type 0} (f : X → Y) (xs : List X) (i : ℕ) (d : X) (ys : List Y) (y : Y) → i < length xs → ys ≡ map f (take i xs)

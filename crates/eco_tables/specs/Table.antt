@@ -103,3 +103,7 @@ HasIds ids r = map (λ p. p.0) r.held ≡ ids
 -- each row of the table has a value for each id of its type
 abbrev pub RowsHaveIds : TableState → Type 0
 RowsHaveIds t = All (HasIds t.ids) t.rows
+
+-- the ids of the table's type ascend, each once
+abbrev pub TypeAscends : TableState → Type 0
+TypeAscends t = IsTrue (is_ascending id_cmp t.ids)

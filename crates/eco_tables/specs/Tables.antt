@@ -8,7 +8,7 @@ use Rattle.eco_ids.specs.declared.id.Id.{Id}
 use Rattle.eco_ids.specs.declared.value.Value.{Value}
 use Rattle.eco_ids.specs.Order.{id_eq}
 use Rattle.eco_tables.specs.Column.{with_held}
-use Rattle.eco_tables.specs.Table.{TableState, TableRow, retyped_row, width_in, RowsHaveIds}
+use Rattle.eco_tables.specs.Table.{TableState, TableRow, retyped_row, width_in, RowsHaveIds, TypeAscends}
 
 -- the table in a slot, if there is one
 abbrev pub slot_of : List (Option TableState) → ℕ → Option TableState
@@ -118,6 +118,10 @@ pub record MovesAll (old new : List (Option TableState)) (from to : ℕ) : Type 
 abbrev pub AllHaveIds : List (Option TableState) → Type 0
 AllHaveIds slots = (n : ℕ) → RowsHaveIds (table_in slots n)
 
+-- the ids of each table's type ascend
+abbrev pub AllAscend : List (Option TableState) → Type 0
+AllAscend slots = (n : ℕ) → TypeAscends (table_in slots n)
+
 -- the slots without a table are kept, each once, with room for the slots of all tables that may be dropped
 pub record AreSlots (slots : List (Option TableState)) (vacant : List ℕ) (capacity : ℕ) : Type 0 where
   pub empty : All (λ n. (n < length slots) × (slot_of slots n ≡ None)) vacant
@@ -125,3 +129,4 @@ pub record AreSlots (slots : List (Option TableState)) (vacant : List ℕ) (capa
   pub counted : length vacant + count_by is_some slots ≡ length slots
   pub ready : length slots ≤ capacity
   pub have_ids : AllHaveIds slots
+  pub ascend : AllAscend slots

@@ -9,7 +9,7 @@ ghost use Rattle.eco_ids.specs.Order.{id_cmp, has_item};
 ghost use Rattle.eco_ids.specs.declared.value.TheConstants.{FIELD_COUNT};
 ghost use Rattle.eco_ids.specs.World.{zeros};
 ghost use Rattle.eco_tables.specs.Column.{value_in, with_held, retyped};
-ghost use Rattle.eco_tables.specs.Table.{TableState, TableRow, entities_of, HasIds, Agree, FitsId, width_in, empty_table};
+ghost use Rattle.eco_tables.specs.Table.{TableState, TableRow, entities_of, HasIds, TypeAscends, Agree, FitsId, width_in, empty_table};
 ghost use Rattle.eco_tables.specs.Kept.{IsUnkept};
 ghost use Rattle.eco_tables.specs.Tables.{cleared, new_row, no_row, with_room, with_row, with_rows, with_written, without_row, without_rows};
 ghost use Rattle.eco_tables.specs.Values.{fields_of, whole_values};
@@ -70,7 +70,8 @@ impl Table {
     pub fn new(alloc: Global, type_list: TypeList, widths: &[u8]) -> Result<Table, AllocError>
         requires lengths { length type_list ≡ length widths.now }
         requires widths { All (λ w. w ≤ FIELD_COUNT) widths.now }
-        ensures { IfOk result (λ t. t ≡ empty_table type_list widths.now) }
+        ensures is { IfOk result (λ t. t ≡ empty_table type_list widths.now) }
+        ensures ascends { IfOk result TypeAscends }
     {
         let columns = columns_of(alloc, type_list.as_slice(), widths)?;
         Ok(Table {

@@ -8,10 +8,10 @@ ghost use Rattle.eco_ids.specs.Order.{id_cmp};
 ghost use Rattle.eco_tables.specs.Column.{value_in, with_held};
 ghost use Rattle.std.specs.List.{All};
 ghost use Rattle.std.specs.Slice.Iter.{iter_rest};
-ghost use Rattle.eco_tables.specs.Table.{TableState, TableRow, entities_of, empty_table, Agree, FitsId, RowsHaveIds};
+ghost use Rattle.eco_tables.specs.Table.{TableState, TableRow, entities_of, empty_table, Agree, FitsId, RowsHaveIds, TypeAscends};
 ghost use Rattle.eco_tables.specs.Tables.{slot_of, table_in, row_in, no_row, SetsSlot, SetsRoom, Moves, MovesAll};
 ghost use Rattle.eco_tables.specs.Tables.{cleared, new_row, with_room, with_row, with_rows, with_written, without_row};
-ghost use Rattle.eco_tables.specs.Tables.{without_rows, no_table, rowless_type, AllHaveIds};
+ghost use Rattle.eco_tables.specs.Tables.{without_rows, no_table, rowless_type, AllAscend, AllHaveIds};
 
 use crate::table::Table;
 use crate::tables::lending::{table_mut, two_mut};
@@ -75,6 +75,13 @@ impl Tables {
         let _slots = &self.slots;
     }
 
+    /// Does nothing, and its contract says that the ids of each table's type ascend, each once.
+    pub fn types_ascend(&self)
+        ensures { AllAscend self.now }
+    {
+        let _slots = &self.slots;
+    }
+
     /// A new table without rows, in a slot that was empty; the answer is the slot. An `Err` comes where memory is refused
     /// and changes nothing.
     pub fn insert(&mut self, type_list: TypeList, widths: &[u8]) -> Result<TableSlot, AllocError>
@@ -99,6 +106,7 @@ impl Tables {
     fn insert_last(&mut self, table: Table) -> Result<TableSlot, AllocError>
         requires full { count_by is_some self.old ≡ length self.old }
         requires rows { RowsHaveIds table }
+        requires ascends { TypeAscends table }
         ensures vacant { IfOk result (λ n. slot_of self.old n ≡ None) }
         ensures sets { IfOk result (λ n. SetsSlot self.old self.new n (Some table)) }
         ensures err { OnErr result (self.new ≡ self.old) }

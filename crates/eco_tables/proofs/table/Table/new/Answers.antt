@@ -12,8 +12,8 @@ invariant_of-result c =
       rows_room = omega arith;
     }
 
-pub returns : goal.returns
-returns c =
+pub returns-clause-is : goal.returns-clause-is
+returns-clause-is c =
     let kinds = c.in_ok-columns.ensures.kinds ∙ ap (λ is. kinds_of is c.args.widths.now) c.as_slice.ensures.ids in
     let widths = ap (λ ks. map (width_among ks) c.args.type_list) kinds
     ∙ widths_kept c.args.type_list c.args.widths.now c.as_slice.ensures.ascending c.requires.lengths in

@@ -8,6 +8,7 @@ table_mut-requires c = rw c.self.view_is c.requires
 pub invariant_of-self : goal.invariant_of-self
 invariant_of-self c =
     still _ _ _ c.self.invariant c.args.slot _ _ c.table_mut.ensures.value cleared c.clear.ensures (λ has. All-nil (HasIds c.table_mut.result.now.ids))
+    (λ up. up)
 
 pub returns : goal.returns
 returns c = wrote _ _ c.args.slot _ _ c.self.view_is c.table_mut.ensures.value cleared c.clear.ensures

@@ -1,4 +1,6 @@
 use Rattle.eco_tables.proofs.Common.{id_cmp, with_item, turned}
+use Rattle.eco_ids.proofs.Ascending.{ascending_with}
+use Rattle.eco_ids.proofs.IdOrder.{id_cmp_total}
 use Rattle.eco_tables.proofs.RowIds.{turned_have}
 use Rattle.eco_tables.proofs.Slots.{still, wrote}
 use Rattle.eco_tables.proofs.tables.Tables.gain.Goals as goal
@@ -11,6 +13,7 @@ invariant_of-self-2 c =
     still _ _ _ c.self.invariant c.args.slot _ _ c.table_mut.ensures.value
     (λ t. turned t (with_item id_cmp t.ids c.args.id) c.args.id c.args.width) c.in_ok-gain.ensures.ok
     (λ has. turned_have c.table_mut.result.now _ c.args.id c.args.width)
+    (ascending_with id_cmp_total c.table_mut.result.now.ids c.args.id)
 
 pub returns-clause-ok : goal.returns-clause-ok
 returns-clause-ok c =
@@ -18,4 +21,4 @@ returns-clause-ok c =
     (λ t. turned t (with_item id_cmp t.ids c.args.id) c.args.id c.args.width) c.in_ok-gain.ensures.ok
 
 pub invariant_of-self : goal.invariant_of-self
-invariant_of-self c = still _ _ _ c.self.invariant c.args.slot _ _ c.table_mut.ensures.value (λ t. t) c.in_err-gain.ensures.err (λ has. has)
+invariant_of-self c = still _ _ _ c.self.invariant c.args.slot _ _ c.table_mut.ensures.value (λ t. t) c.in_err-gain.ensures.err (λ has. has) (λ up. up)

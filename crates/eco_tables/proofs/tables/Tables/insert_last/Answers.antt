@@ -15,7 +15,7 @@ invariant_of-self-2 c =
     let room : length c.self.inside.slots.items + 1 ≤ vec_capacity c.reserve-2.new.self =
     omega (arith, c.in_ok-reserve-2.ensures.ok, c.len-slot.ensures) in
     rw (c.push_reserved.ensures.items, c.reserve.ensures.items, c.reserve-2.ensures.items)
-    (added _ _ _ c.self.invariant _ c.args.table none room c.requires.rows)
+    (added _ _ _ c.self.invariant _ c.args.table none room c.requires.rows c.requires.ascends)
 
 pub returns-clause-sets : goal.returns-clause-sets
 returns-clause-sets c =

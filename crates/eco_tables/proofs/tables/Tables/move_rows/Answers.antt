@@ -39,4 +39,5 @@ invariant_of-self c =
     moved.ensures.target ∙ (λ t. Some (with_rows (unwrap_or (target t) no_table) (unwrap_or (source t) no_table).rows)) in
     rw (both_lent c.self.inside.slots.len slots c.as_mut_slice.result.now from to moved.new.source moved.new.target lent c.self.inside.slots.ok.0, left, grown)
     (both_still slots _ _ c.self.invariant from to _ _ c.requires.apart (some_within slots from some_from) (some_within slots to some_to)
-    some_from some_to (λ has. All-nil (HasIds (table_in slots from).ids)) (joined_have (table_in slots to) (table_in slots from).rows))
+    some_from some_to (λ has. All-nil (HasIds (table_in slots from).ids)) (joined_have (table_in slots to) (table_in slots from).rows)
+    (λ up. up) (λ up. up))

@@ -9,7 +9,7 @@ table_mut-requires c = room_some c.self.inside.slots.items c.args.slot (rw (← 
 pub invariant_of-self : goal.invariant_of-self
 invariant_of-self c =
     still _ _ _ c.self.invariant c.args.slot _ _ c.table_mut.ensures.value (λ t. with_row t (new_row c.args.entity)) c.push_row.ensures
-    (λ has. joined_have c.table_mut.result.now (new_row c.args.entity ∷ []) has)
+    (λ has. joined_have c.table_mut.result.now (new_row c.args.entity ∷ []) has) (λ up. up)
 
 pub returns : goal.returns
 returns c = wrote _ _ c.args.slot _ _ c.self.view_is c.table_mut.ensures.value (λ t. with_row t (new_row c.args.entity)) c.push_row.ensures

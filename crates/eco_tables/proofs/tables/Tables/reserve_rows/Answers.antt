@@ -8,7 +8,7 @@ table_mut-requires c = rw c.self.view_is c.requires
 pub invariant_of-self : goal.invariant_of-self
 invariant_of-self c =
     let room = c.reserve.new.self.room in
-    still _ _ _ c.self.invariant c.args.slot _ _ c.table_mut.ensures.value (λ t. with_room t room) c.reserve.ensures.same (λ has. has)
+    still _ _ _ c.self.invariant c.args.slot _ _ c.table_mut.ensures.value (λ t. with_room t room) c.reserve.ensures.same (λ has. has) (λ up. up)
 
 pub returns : goal.returns
 returns c =

@@ -16,7 +16,7 @@ invariant_of-self c =
     let there = c.table_mut.ensures.value in
     let row = row_there c.self.inside.slots.items c.args.slot c.args.row _ there (rw (← c.self.view_is) at c.requires.row) in
     still _ _ _ c.self.invariant c.args.slot _ _ there (λ t. with_written t c.args.row c.args.id c.args.value) c.set_value.ensures.written
-    (written_has c.table_mut.result.now c.args.row c.args.id c.args.value row)
+    (written_has c.table_mut.result.now c.args.row c.args.id c.args.value row) (λ up. up)
 
 pub returns-clause-written : goal.returns-clause-written
 returns-clause-written c =

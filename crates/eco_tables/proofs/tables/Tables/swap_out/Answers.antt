@@ -14,7 +14,7 @@ invariant_of-self c =
     let there = c.table_mut.ensures.value in
     let row = row_there c.self.inside.slots.items c.args.slot c.args.row _ there (rw (← c.self.view_is) at c.requires) in
     still _ _ _ c.self.invariant c.args.slot _ _ there (λ t. without_row t c.args.row) c.swap_out.ensures.rows
-    (removed_has c.table_mut.result.now c.args.row row)
+    (removed_has c.table_mut.result.now c.args.row row) (λ up. up)
 
 pub returns-clause-rows : goal.returns-clause-rows
 returns-clause-rows c = wrote _ _ c.args.slot _ _ c.self.view_is c.table_mut.ensures.value (λ t. without_row t c.args.row) c.swap_out.ensures.rows

@@ -8,7 +8,7 @@ ghost use Rattle.eco_answers.specs.Ranking.{in_first, standings, AreRanked};
 ghost use Rattle.eco_answers.specs.declared.standing.Standing.{Standing as Stands};
 
 use crate::ranked::Ranked;
-use eco_archetypes::Archetypes;
+use eco_archetypes::{Archetypes, FoundSlots};
 use eco_ids::{Entity, TableSlot};
 use eco_tables::Tables;
 use std::alloc::{AllocError, Global};
@@ -25,7 +25,7 @@ pub struct Standing {
 #[derive(Drop)]
 pub struct Standings<'a> {
     pub tables: &'a Archetypes,
-    pub slots: Vec<TableSlot>,
+    pub slots: FoundSlots,
     pub list: Ranked,
 }
 

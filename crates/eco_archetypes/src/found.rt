@@ -8,19 +8,26 @@ ghost use Rattle.eco_archetypes.specs.Archetypes.{standing_in};
 
 use eco_ids::{Entity, TableSlot};
 use eco_tables::Tables;
+use smallvec::SmallVec;
 use std::alloc::{AllocError, Global};
+
+// So many slots are kept without memory: most searches find no more tables.
+const INLINE_SLOTS: usize = 4;
+
+/// Slots of tables that were found, which take memory only where there are more than four.
+pub type FoundSlots = SmallVec<TableSlot, INLINE_SLOTS>;
 
 /// All tables of a store, and the slots of those that were found, each once, in any order.
 #[derive(Drop)]
 pub struct Found<'a> {
     pub tables: &'a Tables,
-    pub slots: Vec<TableSlot>,
+    pub slots: FoundSlots,
 }
 
 /// Puts a slot behind those that were found before, of at most so many. Where there is no room, room for all of them is asked for
 /// at once: what grows bit by bit is copied again and again.
 pub(crate) fn put_behind(
-    found: &mut Vec<TableSlot>,
+    found: &mut FoundSlots,
     slot: TableSlot,
     most: usize,
 ) -> Result<(), AllocError>

@@ -14,4 +14,4 @@ mod occupied;
 
 pub use archetypes::Archetypes;
 pub use eco_index::{AllOf, NamingTest, Seed, TypeTest};
-pub use found::{Found, entities_in};
+pub use found::{Found, FoundSlots, entities_in};

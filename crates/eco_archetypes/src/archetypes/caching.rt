@@ -6,7 +6,7 @@ ghost use Rattle.eco_entries.specs.Flat.{ChoicesState};
 ghost use Rattle.eco_archetypes.specs.Archetypes.{type_at, has_rows, ArePassing};
 
 use crate::archetypes::Archetypes;
-use crate::found::put_behind;
+use crate::found::{FoundSlots, put_behind};
 use eco_entries::Choices;
 use eco_ids::TableSlot;
 use eco_index::TypeTest;
@@ -70,11 +70,11 @@ impl Archetypes {
     }
 
     // Those of the slots whose tables have rows.
-    pub(super) fn with_rows(&self, slots: &[TableSlot]) -> Result<Vec<TableSlot>, AllocError>
+    pub(super) fn with_rows(&self, slots: &[TableSlot]) -> Result<FoundSlots, AllocError>
         ensures all { IfOk result (λ v. v.items ≡ filter (has_rows self.now) slots.now) }
         ensures some { OnErr result (IsTrue (list_any (has_rows self.now) slots.now)) }
     {
-        let mut found = Vec::new(self.alloc);
+        let mut found = FoundSlots::new(self.alloc);
         for slot in slots {
             if self.tables.row_count(*slot) > 0 {
                 put_behind(&mut found, *slot, slots.len())?;

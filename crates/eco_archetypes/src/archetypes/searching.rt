@@ -6,7 +6,7 @@ ghost use Rattle.eco_archetypes.specs.Archetypes.{is_found_in, FindsSome, IsAllF
 ghost use Rattle.eco_archetypes.specs.Naming.{is_named_by_some};
 
 use crate::archetypes::Archetypes;
-use crate::found::put_behind;
+use crate::found::{FoundSlots, put_behind};
 use eco_ids::{Entity, Pattern, TableSlot};
 use eco_index::TypeTest;
 use std::alloc::AllocError;
@@ -15,7 +15,7 @@ impl Archetypes {
     /// The slots of the tables that have rows and a type that passes the test, each once, in any order. Where the test names a
     /// cache of its query, its time grows with the slots of that cache, and else with the tables that the shortest group of
     /// the test's patterns finds. An `Err` comes where memory is refused, and never where no table is found.
-    pub fn tables_by<T: TypeTest>(&self, test: &T) -> Result<Vec<TableSlot>, AllocError>
+    pub fn tables_by<T: TypeTest>(&self, test: &T) -> Result<FoundSlots, AllocError>
         ensures all { IfOk result (λ v. IsAllFound (T.test test.now) self.now v.items) }
         ensures some { OnErr result (FindsSome (T.test test.now) self.now) }
     {
@@ -26,12 +26,12 @@ impl Archetypes {
     }
 
     // What `tables_by` does where no cache answers.
-    fn search<T: TypeTest>(&self, test: &T) -> Result<Vec<TableSlot>, AllocError>
+    fn search<T: TypeTest>(&self, test: &T) -> Result<FoundSlots, AllocError>
         ensures all { IfOk result (λ v. IsAllFound (T.test test.now) self.now v.items) }
         ensures some { OnErr result (FindsSome (T.test test.now) self.now) }
     {
         let group = self.by_id.shortest_group(test);
-        let mut found = Vec::new(self.alloc);
+        let mut found = FoundSlots::new(self.alloc);
         for place in 0..test.pattern_count(group) {
             self.add_found(&mut found, test, group, place)?;
         }
@@ -41,7 +41,7 @@ impl Archetypes {
     // Puts the tables that the pattern at a place of the group finds behind those that the patterns before it found.
     fn add_found<T: TypeTest>(
         &self,
-        found: &mut Vec<TableSlot>,
+        found: &mut FoundSlots,
         test: &T,
         group: usize,
         place: usize,
@@ -63,7 +63,7 @@ impl Archetypes {
     // the place has found.
     fn add_new<T: TypeTest>(
         &self,
-        found: &mut Vec<TableSlot>,
+        found: &mut FoundSlots,
         slots: &[TableSlot],
         test: &T,
         group: usize,

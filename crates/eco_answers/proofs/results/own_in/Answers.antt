@@ -6,13 +6,13 @@ use Rattle.eco_answers.proofs.results.own_in.Goals as goal
 pub alone_in-requires-clause-only : goal.alone_in-requires-clause-only
 alone_in-requires-clause-only c =
     let found = c.args.found in
-    let kept = rw c.deref.ensures.value at (rw c.in-Some.is at c.in_ok-choices.ensures.kept) in
+    let kept = rw c.deref.ensures at (rw c.in-Some.is at c.in_ok-choices.ensures.kept) in
     only_long found.tables.now found.slots.items (asked c.args.query.now) c.in-Some.choices.all kept.only
 
 pub returns-in-Some : goal.returns-in-Some
 returns-in-Some c =
     let found = c.args.found in
-    let kept = rw c.deref.ensures.value at (rw c.in-Some.is at c.in_ok-choices.ensures.kept) in
+    let kept = rw c.deref.ensures at (rw c.in-Some.is at c.in_ok-choices.ensures.kept) in
     c.alone_in.ensures
     ∙ only_shown found.tables.now found.slots.items (asked c.args.query.now) c.in-Some.choices.all kept.only found.list c.requires.places
 

@@ -13,7 +13,7 @@ taken : (c : goal.After-plan) → has_item entity_cmp (taken_among c.args.places
     ≡ has_item entity_cmp (entities_with c.args.places.now.entities c.args.pattern)
 taken c =
     ap (λ nodes. has_item entity_cmp (taken_among c.args.places.now.slots nodes))
-    (c.deref-2.ensures.value ∙ c.in_ok-starts.ensures ∙ ap (map Falling) c.deref.ensures.value)
+    (c.deref-2.ensures.value ∙ c.in_ok-starts.ensures ∙ ap (map Falling) c.deref.ensures)
     ∙ (λ t e. tables_taken c.args.places.now.entities c.args.places.now.slots c.are_shown.ensures c.args.pattern c.in_ok-slots.slots.items
     (rw c.archetypes.ensures at c.in_ok-slots.ensures.all) e t)
 

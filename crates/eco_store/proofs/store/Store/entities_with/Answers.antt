@@ -16,7 +16,7 @@ returns-clause-all c =
     (whose_ascend c.args.self.now.entities test)
     (standing_whose c.args.self.now.entities found.tables.now test shown found.slots.items
     (λ n h. found_matches test (slot_of found.tables.now n) (sym (all.listed n) ∙ h)) (λ n h. all.listed n ∙ h)))
-    c.entities_in.result (rw c.deref.ensures.value at c.entities_in.ensures.all) c.entities_in.ensures.sorted
+    c.entities_in.result (rw c.deref.ensures at c.entities_in.ensures.all) c.entities_in.ensures.sorted
 
 pub returns-clause-some : goal.returns-clause-some
 returns-clause-some c =
@@ -24,4 +24,4 @@ returns-clause-some c =
     on_err c.entities_in.result
     (some_listed c.args.self.now.entities found.tables.now (list_any (pattern_matches c.args.pattern)) c.in_ok-found.ensures.lent.shown found.slots.items
     c.in_ok-found.ensures.found.listed)
-    (rw c.deref.ensures.value at c.entities_in.ensures.some)
+    (rw c.deref.ensures at c.entities_in.ensures.some)

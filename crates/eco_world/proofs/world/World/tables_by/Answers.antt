@@ -11,7 +11,7 @@ pub tables_in-requires : goal.tables_in-requires
 tables_in-requires g c =
     let qs = asked_by c.self.inside.queries.items in
     let found = c.in_ok-found.found in
-    subst (All (HasTable found.tables.now)) (sym c.deref.ensures.value)
+    subst (All (HasTable found.tables.now)) (sym c.deref.ensures)
     (found_there (world_with c.self.inside.edition c.self.inside.store.entities qs) found.tables.now
     c.in_ok-found.ensures.lent.shown c.in_ok-found.ensures.lent.kinds
     (g.T.TypeTest.test c.args.test.now) found.slots.items c.in_ok-found.ensures.found.listed)
@@ -29,7 +29,7 @@ returns-clause-all g c =
     let passes = g.T.TypeTest.test c.args.test.now in
     let listed_are = rw (← c.self.view_is) at c.in_ok-tables.ensures.lent in
     let all : listed old ≡ map (shown_at slots) ns =
-    sym (map-map (λ t. t.0) lent old) ∙ ap (map (λ t. t.0)) (listed_are ∙ ap (map (lent_at w slots)) c.deref.ensures.value)
+    sym (map-map (λ t. t.0) lent old) ∙ ap (map (λ t. t.0)) (listed_are ∙ ap (map (lent_at w slots)) c.deref.ensures)
     ∙ map-map (λ t. t.0) (lent_at w slots) ns in
     let moved = IsPermutation-map listed_of old new c.sort_by_type.ensures.same in
     rw (← c.self.view_is)
@@ -51,7 +51,7 @@ returns-clause-values g c =
     let old = c.in_ok-tables.tables.items in
     let w = world_with c.self.inside.edition c.self.inside.store.entities qs in
     let listed_are = rw (← c.self.view_is) at c.in_ok-tables.ensures.lent in
-    let all : map lent old ≡ map (lent_at w slots) ns = listed_are ∙ ap (map (lent_at w slots)) c.deref.ensures.value in
+    let all : map lent old ≡ map (lent_at w slots) ns = listed_are ∙ ap (map (lent_at w slots)) c.deref.ensures in
     rw (← c.self.view_is)
     (all_lend w slots c.in_ok-found.ensures.lent.shown c.in_ok-found.ensures.lent.kept c.self.invariant old c.sort_by_type.new.tables.items
     c.sort_by_type.ensures.same (λ x p. in_slots w slots ns x (subst (λ xs. Contains xs x) all p)) c.in_ok-tables.ensures.whole)
@@ -64,4 +64,4 @@ returns-in_err-tables-clause-some g c =
     (err_says c.from_residual-in_err-tables.result
     (found_some (world_with c.self.inside.edition c.self.inside.store.entities qs) found.tables.now
     c.in_ok-found.ensures.lent.shown c.in_ok-found.ensures.lent.kinds
-    (g.T.TypeTest.test c.args.test.now) found.slots.items c.in_ok-found.ensures.found.listed (rw c.deref.ensures.value at c.in_err-tables.ensures.some)))
+    (g.T.TypeTest.test c.args.test.now) found.slots.items c.in_ok-found.ensures.found.listed (rw c.deref.ensures at c.in_err-tables.ensures.some)))

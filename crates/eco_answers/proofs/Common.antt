@@ -3,7 +3,7 @@ pub use Rattle.std.proofs.Common.{Bor, None, add-one, ap, append-nil, drop, drop
 pub use Rattle.std.proofs.Common.{vec_capacity, vec_len, ◌++◌, ◌-◌, ◌∙◌, ◌≡◌, ◌≢◌, ◌≤◌}
 pub use Rattle.std.proofs.lemmas.Bool.Decides.{Decides-eqb}
 pub use Rattle.std.proofs.lemmas.List.{get_or-map, get_or-set_other, get_or-set_same, get_or_default, length-set, nil_from_length, take_more}
-pub use Rattle.std.proofs.lemmas.List.Elements.{All-from_recursion, All-more, recursion_from_All}
+pub use Rattle.std.proofs.lemmas.List.Elements.{All-from_recursion, recursion_from_All}
 pub use Rattle.std.proofs.lemmas.List.Sorted.{All-permutation, IsPermutation-map, IsPermutation-refl, answers_always}
 pub use Rattle.std.proofs.lemmas.Map.Views.{Contains-from_any}
 pub use Rattle.std.proofs.lemmas.Option.{get_or_from_slice_get, slice_get-get_or, slice_get_within}
@@ -15,14 +15,14 @@ pub use Rattle.std.specs.List.Sorted.{IsPermutation, IsSorted, IsSortedByKey, Is
 pub use Rattle.std.specs.Prelude.{IsSome, find, if◌then◌else◌, replicate}
 pub use Rattle.eco_answers.specs.Answers.{asked, asks}
 pub use Rattle.eco_answers.specs.Blocks.{AreBlocks, IsBlock, block_at, results, results_at, shown, standings_from, standings_in, standings_of}
-pub use Rattle.eco_answers.specs.Fixed.{AreFixed, Ascends, FitsQuery, IsFixed}
+pub use Rattle.eco_answers.specs.Fixed.{AreFixed, FitsQuery, IsFixed}
 pub use Rattle.eco_answers.specs.Groups.{groups_of, number_after, others_hold}
 pub use Rattle.eco_answers.specs.Ranking.{AreRanked, IsNumbering, StandsIn, in_first, slot_number, standing_by, standing_from, standing_of, standings}
 pub use Rattle.eco_answers.specs.declared.standing.Standing.{Standing}
 pub use Rattle.eco_archetypes.specs.Archetypes.{IsAllFound, is_found_by, row_at, standing_in}
 pub use Rattle.eco_entities.specs.Registration.{Registration}
 pub use Rattle.eco_entities.specs.declared.place.Place.{Place}
-pub use Rattle.eco_entries.specs.Flat.{ChoicesState, IsEven}
+pub use Rattle.eco_entries.specs.Flat.{IsEven}
 pub use Rattle.eco_ids.proofs.Ascending.{both, first, less, second}
 pub use Rattle.eco_ids.proofs.Common.{All, AllByRecursion, Bool, IsTrue, List, Option, Some, [], append_assoc, arith, cond, false, filter, flat_map}
 pub use Rattle.eco_ids.proofs.Common.{has_item, inl, inr, is_le, is_lt, length-append, length-map, list_all, list_any, map, map-append, nat_eq, nat_tests}
@@ -46,7 +46,7 @@ pub use Rattle.eco_index.specs.TypeTests.{AreNeeded, group_at, type_matches_one}
 pub use Rattle.eco_places.specs.Holders.{entities_whose, passes}
 pub use Rattle.eco_places.specs.Records.{record_ids, type_in_store}
 pub use Rattle.eco_places.specs.Shown.{HasPlace, IsShown, IsStore, read, record_for, seat_at, seat_in, seat_of_place}
-pub use Rattle.eco_query.specs.Queries.{HasPositive, QuerySlot, exactly, has_any, holds, is_positive, matches_type, patterns_of, slot_view, term_view}
+pub use Rattle.eco_query.specs.Queries.{QuerySlot, exactly, has_any, holds, is_positive, matches_type, patterns_of, slot_view, term_view}
 pub use Rattle.eco_query.specs.declared.slot.Slot.{Slot}
 pub use Rattle.eco_tables.specs.Table.{TableRow, TableState, entities_of}
-pub use Rattle.eco_tables.specs.Tables.{AllHaveIds, no_table, slot_of, table_in}
+pub use Rattle.eco_tables.specs.Tables.{AllAscend, AllHaveIds, no_table, slot_of, table_in}

@@ -1,10 +1,11 @@
 -- Entries that slots have wherever they hold.
-use Rattle.eco_answers.proofs.Common.{◌≡◌, ℕ, zero, suc, ◌+◌, ◌<◌, Bool, true, false, true≢false, cond, List, [], ◌∷◌, ◌++◌, map}
-use Rattle.eco_answers.proofs.Common.{flat_map, filter, length, take, Option, Some, refl, sym, ap, ◌∙◌, subst, arith, map-append, list_any, list_all}
+use Rattle.eco_answers.proofs.Common.{◌≡◌, ℕ, ◌+◌, ◌<◌, Bool, true, false, true≢false, cond, List, [], ◌∷◌, ◌++◌, map}
+use Rattle.eco_answers.proofs.Common.{flat_map, filter, length, take, Option, Some, refl, sym, ap, ◌∙◌, subst, map-append, list_any, list_all}
 use Rattle.eco_answers.proofs.Common.{is_lt, IsTrue, All, AllByRecursion, None, replicate, if◌then◌else◌, slice_index_or, take_more, recursion_from_All}
 use Rattle.eco_answers.proofs.Common.{choices, is_least_match, pattern_matches, id_cmp, is_ascending, QueryTerm, Id, Pattern, first, second, id_cmp_total, Slot}
-use Rattle.eco_answers.proofs.Common.{HasPositive, QuerySlot, exactly, has_any, matches_type, term_view, TableState, table_in, Standing, asked, asks}
-use Rattle.eco_answers.proofs.Common.{results_at, shown, AreFixed, Ascends, FitsQuery, IsFixed}
+use Rattle.eco_answers.proofs.Common.{QuerySlot, exactly, has_any, matches_type, term_view, TableState, table_in, Standing, asked, asks}
+use Rattle.eco_answers.proofs.Common.{results_at, shown, AllAscend, AreFixed, FitsQuery, IsFixed}
+use Rattle.std.proofs.lemmas.List.{get_or-replicate}
 use Rattle.std.specs.Cmp.{tied_itself}
 use Rattle.eco_ids.specs.declared.id.Id.TheVariants.{One, Two}
 use Rattle.eco_ids.proofs.Overlaps.{entity_eq_is}
@@ -73,17 +74,6 @@ slot_fixed slots k s es new e lt all at one are =
     ∙ map-append (λ (z : Slot). term_view z.term) (take k slots) (s ∷ [])))
     (more_fixed (asks (take k slots)) es (term_view s.term) e all one))
 
-pub fixed_long : (ts : List QueryTerm) (es : List (Option Id)) → AreFixed ts es → length es ≡ length ts
-fixed_long [] [] all = refl
-fixed_long [] (x ∷ es) all = absurd all
-fixed_long (x ∷ ts) [] all = absurd all
-fixed_long (x ∷ ts) (y ∷ es) all = ap suc (fixed_long ts es all.1)
-
--- a query asks something
-pub positive_some : (q : List QuerySlot) → HasPositive q → 0 < length (asked q)
-positive_some [] h = absurd (true≢false (sym h))
-positive_some (s ∷ q) h = omega arith
-
 -- they are the one choice on a type on which the slots hold
 fixed_choices : (ids : List Id) (q : List QuerySlot) (es : List (Option Id)) → AreFixed (asked q) es → IsTrue (is_ascending id_cmp ids)
     → IsTrue (matches_type ids q) → choices ids (asked q) ≡ es ∷ []
@@ -96,26 +86,13 @@ fixed_choices ids (s ∷ q) (e ∷ es) all up h =
 
 -- ---- the results
 
-copy_at : {X : Type 0} (n k : ℕ) (x d : X) → k < n → slice_index_or (replicate n x) k d ≡ x
-copy_at zero k x d lt = absurd (omega (arith, lt))
-copy_at (suc n) zero x d lt = refl
-copy_at (suc n) (suc k) x d lt = copy_at n k x d (omega (arith, lt))
-
-pub copies_long : {X : Type 0} (n : ℕ) (x : X) → length (replicate n x) ≡ n
-copies_long zero x = refl
-copies_long (suc n) x = ap suc (copies_long n x)
-
-pub copy_more : {X : Type 0} (n : ℕ) (x : X) → replicate n x ++ x ∷ [] ≡ replicate (n + 1) x
-copy_more zero x = refl
-copy_more (suc n) x = let e : suc (n + 1) ≡ suc n + 1 = omega arith in ap (λ xs. x ∷ xs) (copy_more n x) ∙ ap (λ k. replicate k x) e
-
 -- the rows of an entity with these entries, before others
 abbrev rows_before : Standing → List answers.Row → List (List (Option Id)) → List answers.Row
 rows_before s rest cs = map (λ xs. let r : answers.Row = record { entity = s.entity; entries = xs } in r) cs ++ rest
 
 -- all who stand where the query holds are the rows
 pub fixed_shown : (tables : List (Option TableState)) (ns : List ℕ) (q : List QuerySlot) (es : List (Option Id)) → AreFixed (asked q) es
-    → All (Ascends tables) ns → (ss : List Standing) → All (λ (s : Standing). s.place < length ns) ss → All (FitsQuery tables ns q) ss
+    → AllAscend tables → (ss : List Standing) → All (λ (s : Standing). s.place < length ns) ss → All (FitsQuery tables ns q) ss
     → map (shown (replicate (length ns) es)) ss ≡ results_at tables ns (asked q) ss
 fixed_shown tables ns q es fixed up ss within fit =
     go ss (recursion_from_All (λ (s : Standing). s.place < length ns) ss within) (recursion_from_All (FitsQuery tables ns q) ss fit)
@@ -125,6 +102,6 @@ fixed_shown tables ns q es fixed up ss within fit =
     go [] within fit = refl
     go (s ∷ ss) within fit =
         ap (λ zs. shown (replicate (length ns) es) s ∷ zs) (go ss within.1 fit.1)
-        ∙ ap (λ xs. rows_before s (results_at tables ns (asked q) ss) (xs ∷ [])) (copy_at (length ns) s.place es [] within.0)
+        ∙ ap (λ xs. rows_before s (results_at tables ns (asked q) ss) (xs ∷ [])) (get_or-replicate (length ns) s.place es [] within.0)
         ∙ ap (rows_before s (results_at tables ns (asked q) ss))
-        (sym (fixed_choices (table_in tables (slice_index_or ns s.place 0)).ids q es fixed (up s.place 0 within.0) fit.0))
+        (sym (fixed_choices (table_in tables (slice_index_or ns s.place 0)).ids q es fixed (up (slice_index_or ns s.place 0)) fit.0))

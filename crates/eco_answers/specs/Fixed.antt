@@ -21,10 +21,6 @@ AreFixed [] (e ∷ es) = ⊥
 AreFixed (t ∷ ts) [] = ⊥
 AreFixed (t ∷ ts) (e ∷ es) = IsFixed t e × AreFixed ts es
 
--- the ids of the table in a slot ascend
-abbrev pub Ascends : List (Option TableState) → ℕ → Type 0
-Ascends tables n = IsTrue (is_ascending id_cmp (table_in tables n).ids)
-
 -- the type of the table at the place fulfils the query
 abbrev pub FitsQuery : List (Option TableState) → List ℕ → List QuerySlot → Standing → Type 0
 FitsQuery tables slots q s = IsTrue (matches_type (table_in tables (slice_index_or slots s.place 0)).ids q)

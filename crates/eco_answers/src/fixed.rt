@@ -1,15 +1,11 @@
 //! The one choice of entries that some slots have wherever they hold, where it is the same everywhere.
-ghost use Rattle.std.specs.Prelude.{◌≡◌, ◌<◌, length, replicate, IfOk, IfSome, IsSome};
-ghost use Rattle.std.specs.List.{All};
-ghost use Rattle.eco_tables.specs.Tables.{slot_of};
+ghost use Rattle.std.specs.Prelude.{◌≡◌, IfOk, IfSome};
 ghost use Rattle.eco_answers.specs.Answers.{asks};
-ghost use Rattle.eco_answers.specs.Fixed.{AreFixed, Ascends, IsFixed};
+ghost use Rattle.eco_answers.specs.Fixed.{AreFixed, IsFixed};
 ghost use Rattle.eco_query.specs.Queries.{exactly, term_view};
 
-use eco_entries::Choices;
-use eco_ids::{INLINE_IDS, Id, Part, Pattern, TableSlot};
+use eco_ids::{Id, Part, Pattern};
 use eco_query::{Slot, Term};
-use eco_tables::Tables;
 use smallvec::SmallVec;
 use std::alloc::{AllocError, Global};
 
@@ -41,8 +37,11 @@ fn fixed_entry(slot: &Slot) -> Option<Option<Id>>
     }
 }
 
-/// An entry for each of some slots, which takes memory only where there are more than [`INLINE_IDS`].
-pub type FixedChoice = SmallVec<Option<Id>, INLINE_IDS>;
+// So many entries are kept without memory: most queries have no more slots, and what is larger takes longer to move.
+const INLINE_ENTRIES: usize = 2;
+
+/// An entry for each of some slots, which takes memory only where there are more than two.
+pub type FixedChoice = SmallVec<Option<Id>, INLINE_ENTRIES>;
 
 /// The entries that the slots have on each type on which they hold, where they are the same on all.
 pub fn fixed_choice(alloc: Global, slots: &[Slot]) -> Result<Option<FixedChoice>, AllocError>
@@ -56,25 +55,4 @@ pub fn fixed_choice(alloc: Global, slots: &[Slot]) -> Result<Option<FixedChoice>
         choice.push(entry)?;
     }
     Ok(Some(choice))
-}
-
-/// A choice once for each of the tables in these slots.
-pub fn once_each(
-    alloc: Global,
-    tables: &Tables,
-    slots: &[TableSlot],
-    choice: &[Option<Id>],
-) -> Result<Choices, AllocError>
-    requires some { 0 < length choice.now }
-    requires there { All (λ n. IsSome (slot_of tables.now n)) slots.now }
-    ensures each { IfOk result (λ c. c.all ≡ replicate (length slots.now) choice.now) }
-    ensures ascending { IfOk result (λ c. All (Ascends tables.now) slots.now) }
-{
-    let mut choices = Choices::with_room(alloc, choice.len(), slots.len())?;
-    for slot in slots {
-        // Each type ascends.
-        let _ids = tables.get(*slot).unwrap().type_list().as_slice();
-        choices.push(choice)?;
-    }
-    Ok(choices)
 }

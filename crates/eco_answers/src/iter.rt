@@ -5,8 +5,8 @@ ghost use Rattle.std.specs.List.{All};
 ghost use Rattle.std.specs.Map.Iter.{TakesFirst};
 ghost use Rattle.eco_answers.specs.Blocks.{lent_result, shown};
 
+use crate::entries::Entries;
 use crate::ranked::{Ranked, RankedIter};
-use eco_entries::Choices;
 use eco_ids::{Entity, Id};
 use std::marker::Model;
 
@@ -14,7 +14,7 @@ use std::marker::Model;
 #[derive(Drop)]
 pub struct ResultIter<'a> {
     rows: RankedIter<'a>,
-    choices: &'a Choices,
+    entries: &'a Entries,
 }
 
 impl<'a> Model for ResultIter<'a> {
@@ -25,20 +25,20 @@ impl<'a> Model for ResultIter<'a> {
 
     ghost Value = { List answers.Row };
 
-    ghost view = { λ i. map (shown i.choices.now.all) i.rows };
+    ghost view = { λ i. map (shown i.entries.now) i.rows };
 
-    ghost invariant = { λ i. All (λ s. s.place < length i.choices.now.all) i.rows };
+    ghost invariant = { λ i. All (λ s. s.place < length i.entries.now) i.rows };
 }
 
 impl<'a> ResultIter<'a> {
-    /// Of these rows, each with the choice at its place.
-    pub(crate) fn of(rows: &'a Ranked, choices: &'a Choices) -> ResultIter<'a>
-        requires { All (λ s. s.place < length choices.now.all) rows.now }
-        ensures { result ≡ map (shown choices.now.all) rows.now }
+    /// Of these rows, each with the entries at its place.
+    pub(crate) fn of(rows: &'a Ranked, entries: &'a Entries) -> ResultIter<'a>
+        requires { All (λ s. s.place < length entries.now) rows.now }
+        ensures { result ≡ map (shown entries.now) rows.now }
     {
         ResultIter {
             rows: rows.iter(),
-            choices,
+            entries,
         }
     }
 }
@@ -53,6 +53,6 @@ impl<'a> Iterator for ResultIter<'a> {
     #[inline]
     fn next(&mut self) -> Option<(Entity, &'a [Option<Id>])> {
         let row = self.rows.next()?;
-        Some((row.entity, self.choices.get(row.place)))
+        Some((row.entity, self.entries.get(row.place)))
     }
 }

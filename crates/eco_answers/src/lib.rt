@@ -3,6 +3,7 @@
 
 mod asking;
 mod blocks;
+mod entries;
 mod fixed;
 mod iter;
 mod ranked;

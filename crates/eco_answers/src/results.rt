@@ -12,7 +12,8 @@ ghost use Rattle.eco_places.specs.Worlds.{world_of};
 
 use crate::asking::Asking;
 use crate::blocks::{Blocks, blocks_of, rows_of};
-use crate::fixed::{FixedChoice, fixed_choice, once_each};
+use crate::entries::Entries;
+use crate::fixed::{FixedChoice, fixed_choice};
 use crate::iter::ResultIter;
 use crate::ranked::Ranked;
 use crate::searching::standing_by;
@@ -28,9 +29,9 @@ use std::marker::Model;
 /// their entries.
 #[derive(Debug)]
 pub struct Results {
-    // Each with the place of its entries among the choices.
+    // Each with the place of its entries.
     rows: Ranked,
-    choices: Choices,
+    entries: Entries,
 }
 
 // By hand, so that dropping it is one call: a derived drop is proved anew at each early return of whoever holds it.
@@ -38,7 +39,7 @@ impl Drop for Results {
     fn drop(self) {
         let Results {
             rows: _,
-            choices: _,
+            entries: _,
         } = self;
     }
 }
@@ -51,9 +52,9 @@ impl Model for Results {
 
     ghost Value = { List answers.Row };
 
-    ghost view = { λ r. map (shown r.choices.all) r.rows };
+    ghost view = { λ r. map (shown r.entries) r.rows };
 
-    ghost invariant = { λ r. All (λ s. s.place < length r.choices.all) r.rows };
+    ghost invariant = { λ r. All (λ s. s.place < length r.entries) r.rows };
 }
 
 impl Results {
@@ -63,7 +64,7 @@ impl Results {
     {
         Results {
             rows: Ranked::none(alloc),
-            choices: Choices::none(alloc, width),
+            entries: Entries::each(Choices::none(alloc, width)),
         }
     }
 
@@ -87,7 +88,7 @@ impl Results {
         ensures { slice_get self.now place ≡ Some (record { entity = result.0; entries = result.1.now }) }
     {
         let row = self.rows.get(place);
-        (row.entity, self.choices.get(row.place))
+        (row.entity, self.entries.get(row.place))
     }
 
     /// The entity of one of them.
@@ -99,8 +100,8 @@ impl Results {
         self.rows.get(place).entity
     }
 
-    /// Whether two of them share their entries, which then stand once for both. Those of two types are not shared, though they
-    /// may be equal.
+    /// Whether two of them share their entries: they stand in one table, and have the same choice there. Those of two tables
+    /// are told apart, though their entries may be equal.
     #[inline]
     pub fn share_entries(&self, one: usize, other: usize) -> bool
         requires one { one < length self.now }
@@ -115,7 +116,7 @@ impl Results {
     pub fn iter(&self) -> ResultIter<'_>
         ensures { result ≡ self.now }
     {
-        ResultIter::of(&self.rows, &self.choices)
+        ResultIter::of(&self.rows, &self.entries)
     }
 }
 
@@ -125,7 +126,10 @@ fn with_rows(rows: Ranked, made: Blocks) -> Results
     ensures { result ≡ map (shown made.choices.all) rows }
 {
     let Blocks { choices, list: _ } = made;
-    Results { rows, choices }
+    Results {
+        rows,
+        entries: Entries::each(choices),
+    }
 }
 
 // The results of all who stand in the tables that were found.
@@ -143,28 +147,22 @@ fn results_in(
 {
     query.is_positive();
     match fixed_for(alloc, query.slots(), cache)? {
-        Some(choice) => fixed_in(alloc, found, query, choice.as_slice()),
+        Some(choice) => Ok(fixed_in(found, query, choice)),
         None => own_in(alloc, found, query, cache),
     }
 }
 
 // The same, where all types on which the slots hold have just these entries.
-fn fixed_in(
-    alloc: Global,
-    found: Standings<'_>,
-    query: &Query,
-    choice: &[Option<Id>],
-) -> Result<Results, AllocError>
-    requires some { 0 < length choice.now }
-    requires fixed { AreFixed (asked query.now) choice.now }
-    requires there { All (λ n. IsSome (slot_of found.tables.now n)) found.slots.items }
+fn fixed_in(found: Standings<'_>, query: &Query, choice: FixedChoice) -> Results
+    requires fixed { AreFixed (asked query.now) choice.items }
     requires places { All (λ s. s.place < length found.slots.items) found.list }
     requires fit { All (FitsQuery found.tables.now found.slots.items query.now) found.list }
-    ensures { IfOk result (λ r. r
-        ≡ results_at found.entry.tables.now found.entry.slots.items (asked query.now) found.entry.list) }
+    ensures { result
+        ≡ results_at found.entry.tables.now found.entry.slots.items (asked query.now) found.entry.list }
 {
-    let choices = once_each(alloc, found.tables.tables(), &found.slots, choice)?;
-    Ok(alone_in(found, choices))
+    found.tables.tables().types_ascend();
+    let count = found.slots.len();
+    alone_in(found, Entries::same(choice, count))
 }
 
 // The same, where each type may have entries of its own.
@@ -182,7 +180,7 @@ fn own_in(
     query.is_positive();
     match found.tables.only_of(query, cache, &found.slots)? {
         // Each who stands somewhere is its own one row.
-        Some(choices) => Ok(alone_in(found, choices)),
+        Some(choices) => Ok(alone_in(found, Entries::each(choices))),
         None => expanded_in(alloc, found, query.slots()),
     }
 }
@@ -203,10 +201,10 @@ fn fixed_for(
 }
 
 // The same, where each table has one choice.
-fn alone_in(found: Standings<'_>, choices: Choices) -> Results
-    requires only { length choices.all ≡ length found.slots.items }
+fn alone_in(found: Standings<'_>, entries: Entries) -> Results
+    requires only { length entries ≡ length found.slots.items }
     requires places { All (λ s. s.place < length found.slots.items) found.list }
-    ensures { result ≡ map (shown choices.all) found.entry.list }
+    ensures { result ≡ map (shown entries) found.entry.list }
 {
     let Standings {
         tables: _,
@@ -215,7 +213,7 @@ fn alone_in(found: Standings<'_>, choices: Choices) -> Results
     } = found;
     Results {
         rows: list,
-        choices,
+        entries,
     }
 }
 

@@ -6,12 +6,12 @@ use Rattle.eco_answers.proofs.iter.ResultIterIterator.next.Goals as goal
 
 pub invariant_of-self-2 : goal.invariant_of-self-2
 invariant_of-self-2 c =
-    rest_within c.self.inside.choices.now.all c.self.inside.rows c.in_ok-row.row c.next.new.self c.in_ok-row.ensures.steps
+    rest_within c.self.inside.entries.now c.self.inside.rows c.in_ok-row.row c.next.new.self c.in_ok-row.ensures.steps
     c.self.invariant
 
 pub returns-clause-steps : goal.returns-clause-steps
 returns-clause-steps c =
-    let all = c.self.inside.choices.now.all in
+    let all = c.self.inside.entries.now in
     let row = c.in_ok-row.row in
     sym c.self.view_is
     ∙ ap (map (shown all)) c.in_ok-row.ensures.steps

@@ -6,8 +6,8 @@ use eco_entries::Choices;
 use eco_ids::Id;
 use std::marker::Model;
 
-/// Choices of entries, which rows name by their places. A contract sees the list of them. One that stands at all places is
-/// kept once.
+/// Choices of entries, which rows name by their places. A contract sees the list of them. One that stands at all places
+/// is kept once.
 #[derive(Debug)]
 pub struct Entries {
     list: Kept,

@@ -100,8 +100,8 @@ impl Results {
         self.rows.get(place).entity
     }
 
-    /// Whether two of them share their entries: they stand in one table, and have the same choice there. Those of two tables
-    /// are told apart, though their entries may be equal.
+    /// Whether two of them share their entries: they stand in one table, and have the same choice there. Those of two
+    /// tables are told apart, though their entries may be equal.
     #[inline]
     pub fn share_entries(&self, one: usize, other: usize) -> bool
         requires one { one < length self.now }

@@ -26,5 +26,5 @@ pub use Rattle.eco_tables.specs.Column.{ColumnState, Fits, column_with_value, co
 pub use Rattle.eco_tables.specs.Column.{with_column, with_held, with_removed, without_column, written}
 pub use Rattle.eco_tables.specs.Table.{AreKinds, ColumnsAgree, HasIds, HasShape, RowsHaveIds, TableRow, TableState, TypeAscends, entities_of, kinds_of, paired}
 pub use Rattle.eco_tables.specs.Table.{retyped_row, rows_from, rows_of, table_of, width_among, width_in}
-pub use Rattle.eco_tables.specs.Tables.{AllAscend, AllHaveIds, AreSlots, SetsRoom, SetsSlot, cleared, new_row, no_row, no_table, row_in, rowless, rowless_type, slot_of}
+pub use Rattle.eco_tables.specs.Tables.{AreSlots, SetsRoom, SetsSlot, cleared, new_row, no_row, no_table, row_in, rowless, rowless_type, slot_of}
 pub use Rattle.eco_tables.specs.Tables.{table_in, turned, with_room, with_row, with_rows, with_written, without_room, without_row, without_rows}

@@ -1,5 +1,6 @@
 -- Ids that values may stand at, and what a write leaves of that.
-use Rattle.eco_world.proofs.Common.{◌≡◌, ℕ, Bool, MatchBool, sym, subst, ◌&&◌, ◌∷◌, [], not, Option, None, Some, IfSome, is_some, option_and_then, true, false, refl}
+use Rattle.eco_world.proofs.Common.{◌≡◌, ℕ, Bool, MatchBool, sym, subst, ◌&&◌, ◌∷◌, [], not, Option, None, Some, IfSome, option_and_then}
+use Rattle.eco_world.proofs.Common.{is_some, true, false, refl}
 use Rattle.eco_world.proofs.Common.{◌∙◌, if◌then◌else◌, option_or, Entity, Id, One, Two, Refusal, NotAlive, Reserved, DeadId, NotData, TooWide}
 use Rattle.eco_world.proofs.Common.{Value, is_builtin, arity, arity_of, fits, first_refusal, changed, is_reserved, with_value, WorldState, Record, is_alive}
 use Rattle.eco_world.proofs.Common.{names_living, changed_each, MayNotSet, IsSettable, IsUnsettable}

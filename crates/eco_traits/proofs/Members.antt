@@ -1,5 +1,5 @@
 -- Tests, and members of lists.
-use Rattle.eco_traits.proofs.Common.{common_steps, ◌≡◌, ℕ, zero, suc, ◌<◌, length, get_or, arith, true, false, ◌||◌, inl, inr, List, []}
+use Rattle.eco_traits.proofs.Common.{common_steps, ◌≡◌, ℕ, zero, suc, ◌<◌, length, get_or, arith, false, ◌||◌, inl, inr, List, []}
 use Rattle.eco_traits.proofs.Common.{same_tests, ◌∷◌, ◌++◌, refl, sym, ap, ◌∙◌, subst, is_eq, true≢false, Ordering, IsTrue, list_any}
 use Rattle.eco_traits.proofs.Common.{or_left, Entity, entity_cmp, entity_eq, has_item, equal_tie, or_parts, entity_eq_is, entity_eq_itself}
 use Rattle.std.specs.FinMap.{IsAntisymmetric}
@@ -29,7 +29,10 @@ module _ {K : Type 0} (R : K → K → Ordering) where
 
 -- the only member
 pub only : {K : Type 0} {R : K → K → Ordering} → IsAntisymmetric R → (x y : K) → IsTrue (has_item R (x ∷ []) y) → x ≡ y
-only {R = R} same x y h = elim (or_parts (is_eq (R x y)) false h) as (λ _. x ≡ y) [ inl k ↦ same x y (equal_tie _ k) | inr k ↦ absurd (true≢false (sym k)) ]
+only {R = R} same x y h = elim (or_parts (is_eq (R x y)) false h) as (λ _. x ≡ y) [
+  | inl k ↦ same x y (equal_tie _ k)
+  | inr k ↦ absurd (true≢false (sym k))
+]
 
 -- what stands at a place is a member
 pub has_get : {K : Type 0} {R : K → K → Ordering} → IsTotalOrder R → (xs : List K) (k : ℕ) (d : K) → k < length xs

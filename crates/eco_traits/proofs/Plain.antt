@@ -6,6 +6,8 @@ use Rattle.eco_traits.proofs.Common.{is_ascending, with_item, IsClosure, ClosesC
 use Rattle.eco_traits.proofs.Common.{Record, has, is_acyclic, is_alive, is_exclusive, is_symmetric, names_living, record_of, head_of, Edition, has_symmetric}
 use Rattle.eco_traits.proofs.Common.{late_traits, has_clash, mirror_of, mirrored_pair, would_be_barred, both, first, second, or_parts, entity_eq_is}
 use Rattle.eco_traits.proofs.Common.{entity_eq_itself, BringsNone, IsPlain, IsSound, AddLeadsTo, ties, type_of_record}
+use Rattle.std.specs.Prelude.{unwrap_or}
+use Rattle.eco_traits.specs.Prospect.{IsToldAlone}
 use Rattle.eco_ids.specs.declared.edition.Edition.TheVariants.{First, Second}
 use Rattle.eco_ids.proofs.Clashes.{IsQuiet, clash_is_local, quiet_grows}
 use Rattle.eco_traits.proofs.Members.{only}
@@ -148,7 +150,8 @@ pub plain_leads_to : (w : WorldState) (e : Entity) (i : Id) (ids own all : List 
     → AddLeadsTo w e i (Ok all)
 plain_leads_to w e i ids own all lives absent sound traits plain owns up is_all =
     let d = some_record (record_of w e) own owns in
-    leads_to w e i (i ∷ []) own own all None lives absent (plain_alone w i ids traits plain) (unopposed w e i ids d.0 d.1 lives sound traits plain) refl owns up
+    leads_to w e i (i ∷ []) own own all None lives absent (plain_alone w i ids traits plain)
+    (unopposed w e i ids d.0 d.1 lives sound traits plain) refl owns up
     (keeps_all w i (replaces_none w i ids traits plain) own) is_all
 
 -- and nobody gets a mirror
@@ -166,3 +169,8 @@ plain_unmirrored w e (Two r t) ids own plain =
     by b true h = absurd (true≢false h)
     by true false h = refl
     by false false h = refl
+
+-- what the ids of its own entity don't tell nothing tells
+pub not_told : (w : WorldState) (i : Id) (ids : List Id) → AreTraitsOf w i ids → (IsPlain w.edition i ids → ⊥) → IsToldAlone w i → ⊥
+not_told w i ids own other told =
+    other (subst (IsPlain w.edition i) (ap (λ (o : Option (List Id)). unwrap_or o []) (told.1 ∙ sym own)) told.2)

@@ -2,13 +2,13 @@
 ghost use Rattle.eco_ids.specs.declared.entity.TheConstants.{SYMMETRIC as SYMMETRIC_DATA};
 ghost use Rattle.eco_ids.specs.Edition.{has_symmetric};
 ghost use Rattle.eco_ids.specs.Order.{entity_eq};
-ghost use Rattle.std.specs.Prelude.{◌≡◌, ◌↔◌, ◌&&◌, IfSome, IsFalse, IsTrue, Some, false, is_some, true};
+ghost use Rattle.std.specs.Prelude.{◌≡◌, ◌↔◌, ◌&&◌, IfSome, IsFalse, IsTrue, MatchBool, Some, false, is_some, true};
 ghost use Rattle.std.specs.List.{list_any};
 ghost use Rattle.eco_ids.specs.World.{is_alive as lives};
 ghost use Rattle.eco_ids.specs.World as world;
 ghost use Rattle.eco_traits.specs.Closure.{head_of};
 ghost use Rattle.eco_traits.specs.Prospect.{Foresees, is_trait};
-ghost use Rattle.eco_traits.specs.declared.prospect.Prospect.TheVariants.{Alone};
+ghost use Rattle.eco_traits.specs.declared.prospect.Prospect.TheVariants.{Alone, Open};
 ghost use Rattle.eco_traits.specs.Target.{IsNoTrait, IsPlain, IsSound, LacksTraits, type_of_entity};
 
 use crate::holdings::Holdings;
@@ -51,8 +51,8 @@ pub fn foresee<H: Holdings>(holdings: &H, entity: Entity, id: Id) -> Prospect
     Prospect::Open
 }
 
-/// Whether [`foresee`] says [`Prospect::Alone`] of an id that the entity lacks, and in which each entity lives. What is known
-/// of the id is not asked again.
+/// Whether [`foresee`] says [`Prospect::Alone`] of an id that the entity lacks, and in which each entity lives, else it says
+/// [`Prospect::Open`]. What is known of the id is not asked again.
 #[inline(always)]
 #[tactic(auto, using(crate::proofs::Plain::head_lives))]
 pub fn comes_alone<H: Holdings>(holdings: &H, entity: Entity, id: Id) -> bool
@@ -60,7 +60,8 @@ pub fn comes_alone<H: Holdings>(holdings: &H, entity: Entity, id: Id) -> bool
     requires living { world.names_living (H.world holdings.now) id ≡ true }
     requires absent { world.has (H.world holdings.now) entity id ≡ false }
     requires sound { IsSound (H.world holdings.now) }
-    ensures { IsTrue result → Foresees (H.world holdings.now) entity id Alone }
+    ensures { MatchBool result (Foresees (H.world holdings.now) entity id Alone)
+        (Foresees (H.world holdings.now) entity id Open) }
 {
     // The entity's ids ascend, so that the id has one place among them.
     let _own = holdings.type_of(entity).unwrap().as_slice();

@@ -9,7 +9,7 @@ use Rattle.eco_world.proofs.world.World.gain_absent.Goals as goal
 stepped : (c : goal.Then-comes_alone) → IsGrown c.args.self.now c.args.entity c.args.id (changed c.args.self.now c.args.entity (with_toggled c.args.id))
 stepped c =
     let w = c.args.self.now in
-    let alone = c.comes_alone.ensures c.if-comes_alone.true in
+    let alone = c.if-comes_alone.ensures in
     subst (IsGrown w c.args.entity c.args.id) (sym (toggled_in w c.args.entity c.args.id c.requires.absent))
     (found_other w c.args.entity c.args.id c.requires.alive c.requires.free c.is_lawful.ensures (c.steps_keep_lawful.ensures.add c.args.entity c.args.id)
     c.add_leaves_exactly.ensures c.requires.absent _ alone.1 (unmirrored w c.args.entity c.args.id alone.2))

@@ -18,7 +18,6 @@ use crate::id_index::marks::Marks;
 use crate::id_index::slots::Slots;
 use crate::seed::Seed;
 use eco_ids::{Entity, Id, Pattern, TableSlot};
-use eco_query::exactly;
 use indexmap::IndexMap;
 use std::alloc::{AllocError, Global};
 
@@ -61,7 +60,16 @@ impl IdIndex {
         ensures listed { (n : ℕ) → list_any (nat_eq n) result.now ≡ lists_in self.now pattern n }
         ensures distinct { IsDistinct nat_eq result.now }
     {
-        match self.kept(Key::of(pattern)) {
+        self.listed(Key::of(pattern))
+    }
+
+    // The slots that are listed under the key, each once.
+    #[inline(always)]
+    fn listed(&self, key: Key) -> &[TableSlot]
+        ensures listed { (n : ℕ) → list_any (nat_eq n) result.now ≡ is_listed self.now.slots key n }
+        ensures distinct { IsDistinct nat_eq result.now }
+    {
+        match self.kept(key) {
             Some(slots) => slots.as_slice(),
             None => &[],
         }
@@ -84,7 +92,12 @@ impl IdIndex {
         ensures listed { IfSome result (λ n. lists_in self.now (exactly id) n ≡ true) }
         ensures none { IfNone result ((n : ℕ) → lists_in self.now (exactly id) n ≡ false) }
     {
-        self.slots(exactly(id)).first().copied()
+        // The key is named by its kind, so that the look at its mark needs no choice among kinds.
+        let slots = match id {
+            Id::One(entity) => self.listed(Key::Single(entity)),
+            Id::Two(relationship, target) => self.listed(Key::Pair(relationship, target)),
+        };
+        slots.first().copied()
     }
 
     // The slots that are listed under the key, if there are any. Most entities are in no type, so mostly the marks tell.

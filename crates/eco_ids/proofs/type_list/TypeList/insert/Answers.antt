@@ -1,5 +1,8 @@
-use Rattle.eco_ids.proofs.Common.{◌≡◌, ◌+◌, ◌≤◌, length, IsOk, insert, sym, ap, ◌∙◌, arith, rules, id_cmp, with_item}
-use Rattle.std.proofs.lemmas.List.Edits.{length-insert}
+use Rattle.eco_ids.proofs.Common.{◌≡◌, ◌+◌, ◌≤◌, ◌++◌, ◌∷◌, List, [], Id, length, IsOk, IsTrue, insert, sym, ap, ◌∙◌, subst}
+use Rattle.eco_ids.proofs.Common.{arith, rules, id_cmp, is_ascending, with_item}
+use Rattle.std.proofs.lemmas.List.{length-append}
+use Rattle.std.proofs.lemmas.List.Edits.{insert_end, length-insert}
+use Rattle.eco_ids.specs.Fingerprint.{IsTypeList, fingerprint}
 use Rattle.eco_ids.proofs.Ascending.{ascending_with}
 use Rattle.eco_ids.proofs.IdOrder.{id_cmp_total}
 use Rattle.eco_ids.proofs.type_list.TypeList.insert.Goals as goal
@@ -24,5 +27,36 @@ invariant_of-self-in-Err c =
     rw c.self.view_is c.in-Err.ensures.says.1 in
     rw made (record {
       ascending = rw is (ascending_with id_cmp_total _ c.args.id c.self.invariant.ascending);
-      marked = c.joined_by-self-inside.ensures _ c.in-Err.place c.self.invariant.marked;
+      marked = c.joined_by-self-inside-in-Err.ensures _ c.in-Err.place c.self.invariant.marked;
     })
+
+-- what is said of the slice is said of what it shows
+at_end : (items shown : List Id) (id : Id) → shown ≡ items → (IsTrue (is_ascending id_cmp shown) → with_item id_cmp shown id ≡ shown ++ id ∷ [])
+    → IsTrue (is_ascending id_cmp items) → with_item id_cmp items id ≡ items ++ id ∷ []
+at_end items shown id same is = subst (λ xs. IsTrue (is_ascending id_cmp xs) → with_item id_cmp xs id ≡ xs ++ id ∷ []) same is
+
+pub returns-in_err-push-clause-short : goal.returns-in_err-push-clause-short
+returns-in_err-push-clause-short c = λ short.
+    let items = c.self.inside.ids.items in
+    let is = at_end items c.as_slice.result.now c.args.id c.as_slice.ensures (c.is_behind.ensures c.if-is_behind.true) c.self.invariant.ascending in
+    let few : length (with_item id_cmp items c.args.id) ≤ 4 = rw c.self.view_is short in
+    let same : length (with_item id_cmp items c.args.id) ≡ length items + 1 = ap length is ∙ length-append items (c.args.id ∷ []) in
+    let wide : 4 ≤ c.self.inside.ids.capacity = c.spilled-is_long.ensures.at_least_inline in
+    let room : length items + 1 ≤ c.self.inside.ids.capacity = omega arith in
+    let done : IsOk c.push.result = c.push.ensures.succeeds room in
+    search rules
+
+pub invariant_of-self-then-is_behind : goal.invariant_of-self-then-is_behind
+invariant_of-self-then-is_behind c =
+    let items = c.self.inside.ids.items in
+    let is = at_end items c.as_slice.result.now c.args.id c.as_slice.ensures (c.is_behind.ensures c.if-is_behind.true) c.self.invariant.ascending in
+    subst (λ xs. IsTypeList xs c.joined_by-self-inside.result) (sym c.in_ok-push.ensures.ok) (record {
+      ascending = subst (λ xs. IsTrue (is_ascending id_cmp xs)) is (ascending_with id_cmp_total items c.args.id c.self.invariant.ascending);
+      marked = c.joined_by-self-inside.ensures items (length items) c.self.invariant.marked ∙ ap fingerprint (insert_end items c.args.id);
+    })
+
+pub returns-in_ok-push-clause-ok : goal.returns-in_ok-push-clause-ok
+returns-in_ok-push-clause-ok c =
+    let items = c.self.inside.ids.items in
+    let is = at_end items c.as_slice.result.now c.args.id c.as_slice.ensures (c.is_behind.ensures c.if-is_behind.true) c.self.invariant.ascending in
+    c.in_ok-push.ensures.ok ∙ sym is ∙ ap (λ xs. with_item id_cmp xs c.args.id) c.self.view_is

@@ -1,5 +1,5 @@
 use Rattle.eco_ids.proofs.Common.{◌≡◌, ◌+◌, ◌≤◌, ◌++◌, ◌∷◌, List, [], Id, length, IsOk, IsTrue, insert, sym, ap, ◌∙◌, subst}
-use Rattle.eco_ids.proofs.Common.{arith, rules, id_cmp, is_ascending, with_item}
+use Rattle.eco_ids.proofs.Common.{arith, rules, id_cmp, is_ascending, with_item, Err, SearchSays}
 use Rattle.std.proofs.lemmas.List.{length-append}
 use Rattle.std.proofs.lemmas.List.Edits.{insert_end, length-insert}
 use Rattle.eco_ids.specs.Fingerprint.{IsTypeList, fingerprint}
@@ -31,9 +31,10 @@ invariant_of-self-in-Err c =
     })
 
 -- what is said of the slice is said of what it shows
-at_end : (items shown : List Id) (id : Id) → shown ≡ items → (IsTrue (is_ascending id_cmp shown) → with_item id_cmp shown id ≡ shown ++ id ∷ [])
+at_end : (items shown : List Id) (id : Id) → shown ≡ items → (IsTrue (is_ascending id_cmp shown) → SearchSays id_cmp shown id (Err (length shown)))
     → IsTrue (is_ascending id_cmp items) → with_item id_cmp items id ≡ items ++ id ∷ []
-at_end items shown id same is = subst (λ xs. IsTrue (is_ascending id_cmp xs) → with_item id_cmp xs id ≡ xs ++ id ∷ []) same is
+at_end items shown id same says up =
+    sym (subst (λ xs. IsTrue (is_ascending id_cmp xs) → SearchSays id_cmp xs id (Err (length xs))) same says up).1 ∙ insert_end items id
 
 pub returns-in_err-push-clause-short : goal.returns-in_err-push-clause-short
 returns-in_err-push-clause-short c = λ short.

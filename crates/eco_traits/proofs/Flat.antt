@@ -18,7 +18,7 @@ abbrev pub is_by : Id → Id → Option Entity → Bool
 is_by i j None = false
 is_by i j (Some x) = id_eq (with_head i x) j
 
-gives_target : (i j own : Id) → gives i j own ≡ is_by i j (target_by_pair WITH own)
+pub gives_target : (i j own : Id) → gives i j own ≡ is_by i j (target_by_pair WITH own)
 gives_target i j (One c) = refl
 gives_target i j (Two r x) = elim (entity_eq r WITH) as (λ b. (b && id_eq (with_head i x) j) ≡ is_by i j (if b then Some x else None)) [
   | true ↦ refl
@@ -26,7 +26,7 @@ gives_target i j (Two r x) = elim (entity_eq r WITH) as (λ b. (b && id_eq (with
       refl
 ]
 
-given_more : (i j : Id) (traits : List Id) (k : ℕ) (d : Id) → k < length traits → list_any (gives i j) (take (k + 1) traits)
+pub given_more : (i j : Id) (traits : List Id) (k : ℕ) (d : Id) → k < length traits → list_any (gives i j) (take (k + 1) traits)
     ≡ (list_any (gives i j) (take k traits) || is_by i j (target_by_pair WITH (get_or traits k d)))
 given_more i j traits k d l =
     ap (list_any (gives i j)) (take_more traits k d l) ∙ list_any-append (gives i j) (take k traits) (get_or traits k d ∷ [])
@@ -37,7 +37,7 @@ abbrev pub put_by : Id → List Id → Option Entity → List Id
 put_by i ids None = ids
 put_by i ids (Some x) = with_item id_cmp ids (with_head i x)
 
-put_joins : (i : Id) (ids : List Id) (o : Option Entity) (j : Id) → has_item id_cmp (put_by i ids o) j ≡ (is_by i j o || has_item id_cmp ids j)
+pub put_joins : (i : Id) (ids : List Id) (o : Option Entity) (j : Id) → has_item id_cmp (put_by i ids o) j ≡ (is_by i j o || has_item id_cmp ids j)
 put_joins i ids None j = refl
 put_joins i ids (Some x) j = joins_with id_cmp_total ids (with_head i x) j
 

@@ -22,11 +22,11 @@ type_with w s d up =
 
 -- ---- putting in one after the other
 
-all_ascend : (xs ys : List Id) → IsTrue (is_ascending id_cmp xs) → IsTrue (is_ascending id_cmp (fold (with_item id_cmp) xs ys))
+pub all_ascend : (xs ys : List Id) → IsTrue (is_ascending id_cmp xs) → IsTrue (is_ascending id_cmp (fold (with_item id_cmp) xs ys))
 all_ascend xs [] up = up
 all_ascend xs (y ∷ ys) up = all_ascend (with_item id_cmp xs y) ys (ascending_with id_cmp_total xs y up)
 
-all_join : (xs ys : List Id) (j : Id) → has_item id_cmp (fold (with_item id_cmp) xs ys) j ≡ (has_item id_cmp ys j || has_item id_cmp xs j)
+pub all_join : (xs ys : List Id) (j : Id) → has_item id_cmp (fold (with_item id_cmp) xs ys) j ≡ (has_item id_cmp ys j || has_item id_cmp xs j)
 all_join xs [] j = refl
 all_join xs (y ∷ ys) j = all_join (with_item id_cmp xs y) ys j ∙ ap (λ b. has_item id_cmp ys j || b) (joins_with id_cmp_total xs y j)
     ∙ regroup (has_item id_cmp ys j) (id_eq y j) (has_item id_cmp xs j)

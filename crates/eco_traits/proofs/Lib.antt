@@ -1,6 +1,7 @@
 pub mod Common
 pub mod Closures
 pub mod Flat
+pub mod Freely
 pub mod Joined
 pub mod Known
 pub mod Members

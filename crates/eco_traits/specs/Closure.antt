@@ -46,3 +46,7 @@ gives i j (Two r x) = entity_eq r WITH && id_eq (with_head i x) j
 -- the ids are i and what these give it, in any order
 abbrev pub HasGiven : List Id → Id → List Id → Type 0
 HasGiven ids i these = (j : Id) → has_item id_cmp ids j ≡ (id_eq i j || list_any (gives i j) these)
+
+-- the ids are the own ones, the single one, and the targets of the pairs of With among these, in any order
+abbrev pub HasBrought : List Id → List Id → Entity → List Id → Type 0
+HasBrought ids own c these = (j : Id) → has_item id_cmp ids j ≡ (has_item id_cmp own j || (id_eq (One c) j || list_any (gives (One c) j) these))

@@ -14,6 +14,7 @@ use Rattle.eco_ids.specs.Order.{entity_cmp, entity_eq, has_item, id_cmp, with_it
 use Rattle.eco_ids.specs.Outcome.{is_out_of_memory}
 use Rattle.eco_ids.specs.Step.{IsClosure, Judges, grown, is_replaced, is_wrong_policy, with_closure}
 use Rattle.eco_ids.specs.Traits.{Reaches}
+use Rattle.eco_traits.specs.Closure.{LacksWith}
 use Rattle.eco_traits.specs.declared.target.Target.{Target}
 use Rattle.eco_traits.specs.declared.target.Target.TheVariants.{Own, With, Instead, Other}
 use Rattle.eco_ids.specs.World.{Record, WorldState, has, is_acyclic, names_living, record_of}
@@ -69,6 +70,14 @@ LacksTraits edition ids =
 -- neither Exclusive nor Acyclic, nor Symmetric where the edition has it
 abbrev pub IsNoTrait : Edition → Entity → Type 0
 IsNoTrait edition c = (entity_eq c EXCLUSIVE ≡ false) × (entity_eq c ACYCLIC ≡ false) × ((has_symmetric edition && entity_eq c SYMMETRIC) ≡ false)
+
+-- what the pairs of With among the ids bring is no such trait, and brings nothing more
+abbrev pub BringFreely : WorldState → List Id → Type 0
+BringFreely w ids = (x : Entity) → IsTrue (has_item id_cmp ids (Two WITH x)) → IsNoTrait w.edition x × LacksWith w x
+
+-- neither is the single id, where its entity has these ids
+abbrev pub ComesFreely : WorldState → Entity → List Id → Type 0
+ComesFreely w c ids = IsNoTrait w.edition c × BringFreely w ids
 
 -- an id that brings nothing along, replaces nothing and has no mirror, and nothing stands against it, where its entity or its
 -- relationship has these ids: a single id that is no trait which may come too late, or a pair of a relationship that is

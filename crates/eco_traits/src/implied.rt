@@ -100,7 +100,7 @@ fn with_head(id: Id, head: Entity) -> Id
 }
 
 // Whether the entity has a pair of With.
-fn has_with<H: Holdings>(holdings: &H, entity: Entity) -> bool
+pub(crate) fn has_with<H: Holdings>(holdings: &H, entity: Entity) -> bool
     ensures { IsTrue result ↔ spec.HasWith (H.world holdings.now) entity }
 {
     match holdings.type_of(entity) {

@@ -2,6 +2,7 @@
 //! Exclusive and With).
 #![tactic(auto)]
 
+mod brought;
 mod holdings;
 mod implied;
 mod prospect;

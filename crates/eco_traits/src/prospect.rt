@@ -106,7 +106,7 @@ fn is_plain(edition: Edition, id: Id, traits: &TypeList) -> bool
 
 // Whether the entity is no trait that may come too late.
 #[inline(always)]
-fn is_no_trait(edition: Edition, single: Entity) -> bool
+pub(crate) fn is_no_trait(edition: Edition, single: Entity) -> bool
     ensures { IsTrue result ↔ IsNoTrait edition single }
 {
     !single.is(EXCLUSIVE) && !single.is(ACYCLIC) && !is_symmetric(edition, single)

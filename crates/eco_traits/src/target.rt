@@ -13,6 +13,7 @@ ghost use Rattle.eco_ids.specs.Traits.{Reaches};
 ghost use Rattle.eco_traits.specs.Target.{FindsTarget, FindsType, is_own_type, IsAmong, IsSound, TakesOwn, Replaces};
 ghost use Rattle.eco_traits.specs.Target.{extended_by, left_by, without_replaced, ties, type_of_entity};
 
+use crate::brought::{comes_freely, put_all, with_brought};
 use crate::holdings::Holdings;
 use crate::implied::{brings_any, closure_by, head_of};
 use crate::prospect::{Prospect, foresee};
@@ -91,30 +92,73 @@ pub fn open_target<H: Holdings>(
 {
     let own = holdings.type_of(entity).unwrap();
     let traits = holdings.type_of(head_of(id)).unwrap();
-    new_target(alloc, holdings, entity, own, id, traits)
+    match id {
+        Id::One(single) => single_target(alloc, holdings, entity, own, single, traits),
+        Id::Two(relationship, target) => pair_target(
+            alloc,
+            holdings,
+            entity,
+            own,
+            relationship,
+            target,
+            traits,
+        ),
+    }
 }
 
-// What `open_target` does once it knows the types. A pair of an exclusive relationship mostly takes the place of one other
-// pair, and nothing else has to be known for that.
+// What `open_target` does with a single id once it knows the types. Mostly it brings others along, and no more than that has
+// to be known.
 #[inline(never)]
-fn new_target<H: Holdings>(
+fn single_target<H: Holdings>(
     alloc: Global,
     holdings: &H,
     entity: Entity,
     own: &TypeList,
-    added: Id,
+    single: Entity,
     traits: &TypeList,
 ) -> Result<Target, Refusal>
-    requires lives { IsTrue (world.names_living (H.world holdings.now) added) }
-    requires absent { IsFalse (world.has (H.world holdings.now) entity added) }
+    requires lives { IsTrue (world.names_living (H.world holdings.now) (One single)) }
+    requires absent { IsFalse (world.has (H.world holdings.now) entity (One single)) }
     requires sound { IsSound (H.world holdings.now) }
     requires own { Some own.now ≡ type_of_entity (H.world holdings.now) entity }
-    requires traits { Some traits.now ≡ type_of_entity (H.world holdings.now) (head_of added) }
-    ensures target { FindsTarget (H.world holdings.now) entity added result }
-    ensures own { IfOk result (λ target. is_own_type target ≡ has (H.world holdings.now) entity added) }
+    requires traits { Some traits.now ≡ type_of_entity (H.world holdings.now) single }
+    ensures target { FindsTarget (H.world holdings.now) entity (One single) result }
+    ensures own { IfOk result (λ target. is_own_type target ≡ has (H.world holdings.now) entity (One single)) }
     ensures there { IfOk result (TakesOwn (H.world holdings.now) entity) }
 {
-    let Some(replaced) = short_way(holdings, entity, own, added, traits) else {
+    if comes_freely(holdings, single, traits.as_slice()) {
+        let ids = with_brought(alloc, own, single, traits.as_slice())?;
+        return Ok(Target::Other(ids));
+    }
+    let added = Id::One(single);
+    let ids = closed_type(alloc, holdings, entity, own, added, traits)?;
+    Ok(Target::Other(ids))
+}
+
+// What `open_target` does with a pair once it knows the types. A pair of an exclusive relationship mostly takes the place of
+// one other pair, and nothing else has to be known for that.
+#[inline(never)]
+fn pair_target<H: Holdings>(
+    alloc: Global,
+    holdings: &H,
+    entity: Entity,
+    own: &TypeList,
+    relationship: Entity,
+    target: Entity,
+    traits: &TypeList,
+) -> Result<Target, Refusal>
+    requires lives { IsTrue (world.names_living (H.world holdings.now) (Two relationship target)) }
+    requires absent { IsFalse (world.has (H.world holdings.now) entity (Two relationship target)) }
+    requires sound { IsSound (H.world holdings.now) }
+    requires own { Some own.now ≡ type_of_entity (H.world holdings.now) entity }
+    requires traits { Some traits.now ≡ type_of_entity (H.world holdings.now) relationship }
+    ensures target { FindsTarget (H.world holdings.now) entity (Two relationship target) result }
+    ensures own { IfOk result (λ answer. is_own_type answer
+        ≡ has (H.world holdings.now) entity (Two relationship target)) }
+    ensures there { IfOk result (TakesOwn (H.world holdings.now) entity) }
+{
+    let Some(replaced) = short_way(holdings, entity, own, relationship, target, traits) else {
+        let added = Id::Two(relationship, target);
         let ids = closed_type(alloc, holdings, entity, own, added, traits)?;
         return Ok(Target::Other(ids));
     };
@@ -128,36 +172,6 @@ fn new_target<H: Holdings>(
 // answer where that takes more than a look at the pair's entities: the pair brings others along, replaces several, names
 // no action, ties a symmetric relationship to another, or may close a cycle.
 fn short_way<H: Holdings>(
-    holdings: &H,
-    entity: Entity,
-    own: &TypeList,
-    added: Id,
-    traits: &TypeList,
-) -> Option<Option<Id>>
-    requires lives { IsTrue (world.names_living (H.world holdings.now) added) }
-    requires absent { IsFalse (world.has (H.world holdings.now) entity added) }
-    requires sound { IsSound (H.world holdings.now) }
-    requires own { Some own.now ≡ type_of_entity (H.world holdings.now) entity }
-    requires traits { Some traits.now ≡ type_of_entity (H.world holdings.now) (head_of added) }
-    ensures among { IfSome result (IsAmong own.now) }
-    ensures replaces { IfSome result (λ replaced.
-        Replaces (H.world holdings.now) entity added own.now replaced) }
-{
-    match added {
-        Id::One(_) => None,
-        Id::Two(relationship, target) => short_pair(
-            holdings,
-            entity,
-            own,
-            relationship,
-            target,
-            traits,
-        ),
-    }
-}
-
-// What `short_way` answers for a pair.
-fn short_pair<H: Holdings>(
     holdings: &H,
     entity: Entity,
     own: &TypeList,
@@ -265,7 +279,7 @@ fn has_other_pair_of(ids: &[Id], relationship: Entity, first: Id) -> bool
         .any(|id| is_pair_of(*id, relationship) && !id.is(first))
 }
 
-// The type that `new_target` leads to where the short way doesn't tell. Rare beside the short way.
+// The type that an absent id leads to where no short way tells. Rare beside those.
 #[cold]
 #[inline(never)]
 fn closed_type<H: Holdings>(
@@ -349,8 +363,6 @@ fn joined(ids: &TypeList, coming: TypeList) -> Result<TypeList, AllocError>
 fn with_all(mut list: TypeList, ids: &[Id]) -> Result<TypeList, AllocError>
     ensures { IfOk result (λ all. all ≡ fold (with_item id_cmp) list ids.now) }
 {
-    for id in ids {
-        list.insert(*id)?;
-    }
+    put_all(&mut list, ids)?;
     Ok(list)
 }

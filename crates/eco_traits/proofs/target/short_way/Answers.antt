@@ -1,6 +1,6 @@
 use Rattle.eco_traits.proofs.Common.{false, sym, ◌∙◌, true≢false, same_tests}
 use Rattle.eco_traits.proofs.Replaced.{replaces}
-use Rattle.eco_traits.proofs.target.short_pair.Goals as goal
+use Rattle.eco_traits.proofs.target.short_way.Goals as goal
 
 pub returns-clause-replaces : goal.returns-clause-replaces
 returns-clause-replaces g c =

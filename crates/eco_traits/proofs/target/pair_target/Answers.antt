@@ -1,6 +1,6 @@
 use Rattle.eco_traits.proofs.Common.{subst, ◌∙◌, err_from_is_err_and, IsAmong}
 use Rattle.eco_traits.proofs.Walks.{has_listed}
-use Rattle.eco_traits.proofs.target.new_target.Goals as goal
+use Rattle.eco_traits.proofs.target.pair_target.Goals as goal
 
 pub returns-clause-there : goal.returns-clause-there
 returns-clause-there g c =

@@ -42,9 +42,9 @@ impl Drop for Script {
     }
 }
 
-// Records the actions for a row, in their order.
+// Records the actions for a row, one after another.
 #[inline(always)]
-fn record_actions<R: BodyRow, D: Draws>(
+fn record_in_turn<R: BodyRow, D: Draws>(
     writes: &[Pattern],
     actions: &[Action],
     row: &R,
@@ -64,6 +64,30 @@ fn record_actions<R: BodyRow, D: Draws>(
         record_action(writes, action, row, draws, stage)?;
     }
     Ok(())
+}
+
+// Records the actions for a row, in their order. Most scripts have one, for which a loop would only take time.
+#[inline(always)]
+fn record_actions<R: BodyRow, D: Draws>(
+    writes: &[Pattern],
+    actions: &[Action],
+    row: &R,
+    draws: &mut D,
+    stage: &mut Stage,
+) -> Result<(), Refusal>
+    requires { D.is_dry draws.old ≡ false }
+    ensures rest { D.rest draws.new ≡ D.rest draws.old }
+    ensures wet { IfOk result (λ _. D.is_dry draws.new ≡ false) }
+    ensures ok { IfOk result (λ _. OneTook (script_commands writes.now actions.now) (script_taken actions.now)
+        (R.row_of row.now) (D.so_far draws.old) (D.so_far draws.new) stage.old stage.new) }
+    ensures why { IfErr result (λ why. why ≡ stopped_by (D.is_dry draws.new)) }
+    ensures err { IfErr result (λ _. Broke (script_taken actions.now (R.row_of row.now))
+        (D.so_far draws.old) (D.so_far draws.new) (D.is_dry draws.new)) }
+{
+    match actions {
+        [only] => record_action(writes, only, row, draws, stage),
+        _ => record_in_turn(writes, actions, row, draws, stage),
+    }
 }
 
 impl Script {

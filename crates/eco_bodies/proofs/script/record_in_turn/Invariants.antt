@@ -1,6 +1,6 @@
 use Rattle.eco_bodies.proofs.Common.{◌≡◌, false, take, action_commands, takes_draws}
 use Rattle.eco_bodies.specs.Taking.{AllTook}
-use Rattle.eco_bodies.proofs.script.record_actions.Given as goal
+use Rattle.eco_bodies.proofs.script.record_in_turn.Given as goal
 
 abbrev pub invariant-loop-action : goal.invariant-loop-action
 invariant-loop-action g l = record {

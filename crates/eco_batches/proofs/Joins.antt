@@ -1,11 +1,14 @@
 -- The loop that joins systems one by one.
 use Rattle.eco_batches.proofs.Common.{◌≡◌, ℕ, ◌+◌, ◌<◌, Bool, true, false, cond, ◌&&◌, ◌||◌, List, [], ◌∷◌, ◌++◌, map, length}
-use Rattle.eco_batches.proofs.Common.{get_or, take, drop, Option, ◌≤◌, slice_get, refl, sym, ap, ◌∙◌, subst, true≢false, append_assoc, AllZip}
+use Rattle.eco_batches.proofs.Common.{get_or, take, drop, Option, Some, None, IsTrue, traits_in, ◌≤◌, slice_get, take_all, arith, refl, sym, ap, ◌∙◌, subst, true≢false, append_assoc, AllZip}
 use Rattle.eco_batches.proofs.Common.{IsDistinct, list_any, drop_all, drop_more, map-append, map_push, take_more, list_any-append, Pattern, pattern_overlaps}
 use Rattle.eco_batches.proofs.Common.{WorldState, has_any, batched, ListsClosed, writes_trait, same_pattern, OutlineModel, IsOutline, clash_at, clash_of}
 use Rattle.eco_batches.proofs.Common.{closed_in, disturbs, kills_in, kills_too, late_at, reads_in, overlaps, Declared, or-false, or_assoc}
 use Rattle.eco_ids.specs.declared.edition.Edition.{Edition}
 use Rattle.eco_ids.proofs.Further.{zip_push}
+use Rattle.std.proofs.lemmas.Option.{slice_get-get_or}
+use Rattle.std.specs.Prelude.{IfSome}
+use Rattle.std.specs.Bool.{beq}
 use Rattle.eco_batches.specs.Open.{IsFresh, IsOpen, JoinsNext, JoinsOpen, stands_apart}
 use Rattle.eco_batches.specs.declared.batch.Batch.{Batch}
 
@@ -169,3 +172,39 @@ outlined_more w edition same_edition ds k d old new closed shown below all liste
       once = subst (IsDistinct same_pattern) (sym is) once;
       traits = ap (λ e. list_any (writes_trait e) shown) same_edition;
     })))
+
+beq_same : (a b : Bool) → IsTrue (beq a b) → a ≡ b
+beq_same true true h = refl
+beq_same true false h = absurd (true≢false (sym h))
+beq_same false true h = absurd (true≢false (sym h))
+beq_same false false h = refl
+
+-- an outline that was worked out before is one of the system still
+pub known_by : (w : WorldState) (d : Declared) (edition : Edition) → edition ≡ w.edition → (o : Option OutlineModel) (closed : List Pattern)
+    → closed ≡ closed_in o → ListsClosed w d.writes.now closed → IsDistinct same_pattern closed → (traits some kills : Bool)
+    → traits ≡ traits_in o → some ≡ list_any (writes_trait edition) closed → IsTrue (beq traits some)
+    → kills ≡ kills_in o → IsTrue (beq kills d.kills) → IfSome o (IsOutline w d)
+known_by w d edition same_edition None closed is listed once traits some kills own found same killing same_kills = tt
+known_by w d edition same_edition (Some o) closed is listed once traits some kills own found same killing same_kills = record {
+  kills = sym killing ∙ beq_same kills d.kills same_kills;
+  closed = subst (ListsClosed w d.writes.now) is listed;
+  once = subst (IsDistinct same_pattern) is once;
+  traits = sym own ∙ beq_same traits some same ∙ found ∙ λ i. list_any (writes_trait (same_edition i)) (is i);
+}
+
+-- one outline more is known
+pub known_more : (R : Declared → OutlineModel → Type 0) (ds : List Declared) (os : List OutlineModel) (k : ℕ) (d : Declared) → k < length ds
+    → length os ≡ length ds → AllZip R (take k ds) (take k os) → IfSome (slice_get os k) (R (get_or ds k d)) → AllZip R (take (k + 1) ds) (take (k + 1) os)
+known_more R ds os k d below long all known =
+    let there : k < length os = omega (arith, below, long) in
+    let one : OutlineModel = record { closed = []; writes_traits = false; kills = false } in
+    let at : slice_get os k ≡ Some (get_or os k one) = slice_get-get_or os k one there in
+    subst (AllZip R (take (k + 1) ds)) (sym (take_more os k one there))
+    (subst (λ xs. AllZip R xs (take k os ++ get_or os k one ∷ [])) (sym (take_more ds k d below))
+    (zip_push R (take k ds) (take k os) (get_or ds k d) (get_or os k one) all (subst (λ o. IfSome o (R (get_or ds k d))) at known)))
+
+-- all of them are
+pub known_all : (R : Declared → OutlineModel → Type 0) (ds : List Declared) (os : List OutlineModel) (k : ℕ) → length ds ≤ k → length os ≡ length ds
+    → AllZip R (take k ds) (take k os) → AllZip R ds os
+known_all R ds os k end long all =
+    subst (AllZip R ds) (take_all k os (omega (arith, end, long))) (subst (λ xs. AllZip R xs (take k os)) (take_all k ds end) all)

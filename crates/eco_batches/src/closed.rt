@@ -1,5 +1,5 @@
 //! The closed writes of a system.
-ghost use Rattle.std.specs.Prelude.{◌≡◌, ◌++◌, map, IfOk, OnOk};
+ghost use Rattle.std.specs.Prelude.{◌≡◌, ◌++◌, ◌≤◌, length, map, take, IfOk, IfSome, IsTrue, OnOk};
 ghost use Rattle.std.specs.List.{IsDistinct, list_any};
 ghost use Rattle.indexmap.specs.IndexSet.{insert_all, insert_key};
 ghost use Rattle.eco_ids.specs.World.{is_widened};
@@ -27,6 +27,7 @@ fn is_widened<H: Holdings>(holdings: &H, relationship: Entity) -> bool
 }
 
 // Pairs of an exclusive or symmetric relationship become all its pairs.
+#[inline]
 fn widened<H: Holdings>(holdings: &H, pattern: Pattern) -> Pattern
     ensures { result ≡ writes.widened (H.world holdings.now) pattern }
 {
@@ -69,6 +70,49 @@ fn add_few<H: Holdings>(
         add_once(widened(holdings, *pattern), closed)?;
     }
     Ok(())
+}
+
+// How many of the closed patterns are found with one more pattern, where the first so many were found before: none, where it is
+// neither among these nor the next.
+fn found_with(closed: &[Pattern], found: usize, pattern: Pattern) -> Option<usize>
+    requires { found ≤ length closed.now }
+    ensures { IfSome result (λ n. (n ≤ length closed.now)
+        × (take n closed.now ≡ insert_key same_pattern (take found closed.now) pattern)) }
+{
+    if stands_in(&closed[..found], pattern) {
+        return Some(found);
+    }
+    match closed.get(found) {
+        Some(next) if pattern == *next => Some(found + 1),
+        _ => None,
+    }
+}
+
+// Whether a few patterns, widened, each once, are those closed as they stand.
+fn are_widened<H: Holdings>(holdings: &H, patterns: &[Pattern], closed: &[Pattern]) -> bool
+    ensures { IsTrue result
+        → closed.now ≡ unrepeated (map (writes.widened (H.world holdings.now)) patterns.now) }
+{
+    let mut found = 0;
+    for pattern in patterns {
+        match found_with(closed, found, widened(holdings, *pattern)) {
+            Some(more) => found = more,
+            None => return false,
+        }
+    }
+    found == closed.len()
+}
+
+/// Whether the list is known to be that of the closed writes of some patterns, as it was made before. It takes no memory, and
+/// mostly less time than to list them anew; that of patterns that bring others is not known.
+pub(crate) fn is_closed<H: Holdings>(holdings: &H, writes: &[Pattern], closed: &[Pattern]) -> bool
+    ensures closed { IsTrue result → ListsClosed (H.world holdings.now) writes.now closed.now }
+    ensures once { IsTrue result → IsDistinct same_pattern closed.now }
+{
+    if writes.len() > FEW {
+        return false;
+    }
+    bring_nothing(holdings, writes) && are_widened(holdings, writes, closed)
 }
 
 // Widens any number of patterns: each comes once.

@@ -1,11 +1,11 @@
 //! What is worked out of each system once.
-ghost use Rattle.std.specs.Prelude.{◌≡◌, ◌∷◌, ◌++◌, [], IfOk, IsTrue, OnOk, slice_get};
+ghost use Rattle.std.specs.Prelude.{◌≡◌, ◌∷◌, ◌++◌, [], IfOk, IfSome, IsTrue, OnOk, length, slice_get};
 ghost use Rattle.std.specs.List.{AllZip, list_any};
 ghost use Rattle.eco_systems.specs.Writes as writes;
 ghost use Rattle.eco_batches.specs.Outlines as spec;
 ghost use Rattle.eco_batches.specs.Outlines.{IsOutline};
 
-use crate::closed::list_closed;
+use crate::closed::{is_closed, list_closed};
 use crate::declaration::Declared;
 use eco_ids::entity::CHILD_OF;
 use eco_ids::{Edition, Entity, Part, Pattern};
@@ -93,6 +93,42 @@ impl Outlines {
             Some(outline) => &self.closed[outline.start..outline.end],
             None => &[],
         }
+    }
+
+    // How many systems there are.
+    fn len(&self) -> usize
+        ensures { result ≡ length self.now }
+    {
+        self.list.len()
+    }
+
+    // Whether the outline at a position is known to be that of a system.
+    fn is_known<H: Holdings>(&self, at: usize, holdings: &H, system: &Declared) -> bool
+        ensures { IsTrue result
+            → IfSome (slice_get self.now at) (IsOutline (H.world holdings.now) system.now) }
+    {
+        let closed = self.closed(at);
+        if !is_closed(holdings, system.writes, closed) {
+            return false;
+        }
+        let traits = writes_some_trait(holdings.edition(), closed);
+        self.writes_traits(at) == traits && self.kills(at) == system.kills
+    }
+
+    /// Whether they are known to be those of these systems, as they were worked out before. It takes no memory, and less time
+    /// than to work them out.
+    pub fn are_known<H: Holdings>(&self, holdings: &H, systems: &[Declared]) -> bool
+        ensures { IsTrue result → AllZip (IsOutline (H.world holdings.now)) systems.now self.now }
+    {
+        if self.len() != systems.len() {
+            return false;
+        }
+        for at in 0..systems.len() {
+            if !self.is_known(at, holdings, &systems[at]) {
+                return false;
+            }
+        }
+        true
     }
 
     /// Whether it writes traits.

@@ -69,6 +69,9 @@ impl<'a> Plan<'a> {
     {
         eco_systems::laws::systems_are_ordered();
         eco_systems::laws::batches_are_unique();
+        if self.outlines.are_known(holdings, &self.systems) {
+            return Ok(());
+        }
         let outlines = work_out(alloc, holdings, &self.systems)?;
         if self.outlines.is(&outlines) {
             return Ok(());

@@ -186,14 +186,6 @@ module _ (before : Option Id) (r t : Entity) (l l' : Lists) (slot : ℕ) where
           ap (λ b. cond (b && nat_eq slot n) v (l p n)) out.0
           ∙ left_out (matches_id (id.Two r t) p) (nat_eq slot n) refl (had p out.1)
 
-  -- what keeps the rest of the others keeps the rest of all
-  pub own_keeps : KeepsRest own l l' slot → KeepsRest (matches_id (id.Two r t)) l l' slot
-  own_keeps keeps p n h = keeps p n (by (own_split before r t p))
-    where
-      by : (own p ≡ matches_id (id.Two r t) p) ⊎ ((own p ≡ false) × (matches_some before p ≡ true)) → (own p && nat_eq slot n) ≡ false
-      by (inl same) = ap (λ b. b && nat_eq slot n) same ∙ h
-      by (inr out) = ap (λ b. b && nat_eq slot n) out.0
-
 -- the slot has turned under what the id matches that was turned last
 pub turned_last : (v : Bool) (i : Id) (l l' : Lists) (slot : ℕ) → Turns v (matches_id i) l l' slot → HasTurned v (Some i) l' slot
 turned_last v i l l' slot turns p matches =

@@ -4,5 +4,6 @@ pub mod TypeTests
 pub mod TypeMap
 pub mod Edges
 pub mod Naming
+pub mod SlotList
 pub mod Sweeping
 pub mod Contents

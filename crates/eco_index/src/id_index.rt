@@ -27,6 +27,7 @@ mod marks;
 mod names;
 mod numbers;
 mod shortest;
+mod slot_list;
 mod slots;
 mod sweeping;
 mod turning;
@@ -146,6 +147,7 @@ impl IdIndex {
     }
 
     // Lists the slot under the key; the answer is whether it was not listed there. An `Err` changes nothing that is listed.
+    #[inline(always)]
     fn add(&mut self, alloc: Global, key: Key, slot: TableSlot) -> Result<bool, AllocError>
         ensures ok { OnOk result
             (Turns true (has_key key) (lists_in self.old) (lists_in self.new) slot) }
@@ -161,6 +163,7 @@ impl IdIndex {
     }
 
     // Lists the slot under a key that is not kept, which stands last then. An `Err` changes nothing that is listed.
+    #[inline(never)]
     fn add_key(&mut self, key: Key, slot: TableSlot) -> Result<(), AllocError>
         requires { get same_key self.old.slots key ≡ None }
         ensures ok { OnOk result
@@ -213,6 +216,35 @@ impl IdIndex {
         Ok(())
     }
 
+    // Lists the slot under the first so many keys of a pair, each of which is named by its kind, as in `take_pair`.
+    fn add_pair(
+        &mut self,
+        alloc: Global,
+        relationship: Entity,
+        target: Entity,
+        own: usize,
+        slot: TableSlot,
+    ) -> Result<(), AllocError>
+        requires least { 2 ≤ own }
+        requires most { own ≤ 4 }
+        ensures ok { OnOk result
+            (Turns true (has_one (take own (keys_of (Two relationship target)))) (lists_in self.old) (lists_in self.new) slot) }
+        ensures err { OnErr result
+            (KeepsRest (has_one (keys_of (Two relationship target))) (lists_in self.old) (lists_in self.new) slot) }
+    {
+        self.add(alloc, Key::Pair(relationship, target), slot)?;
+        self.add(alloc, Key::Target(target), slot)?;
+        if own == 2 {
+            return Ok(());
+        }
+        self.add(alloc, Key::Relationship(relationship), slot)?;
+        if own == 3 {
+            return Ok(());
+        }
+        self.add(alloc, Key::AnyPair, slot)?;
+        Ok(())
+    }
+
     // Takes the slot off the lists of the first so many keys of a pair. Each key is named by its kind, so that the look at its
     // mark and the one at what stands in its place need no choice among kinds.
     fn take_pair(&mut self, relationship: Entity, target: Entity, own: usize, slot: TableSlot)
@@ -250,8 +282,8 @@ impl IdIndex {
         match id {
             Id::One(entity) => self.add_keys(alloc, &[Key::Single(entity)], slot),
             Id::Two(relationship, target) => {
-                let keys = keys_of_pair(relationship, target);
-                self.add_keys(alloc, &keys[..own_count(before, relationship)], slot)
+                let own = own_count(before, relationship);
+                self.add_pair(alloc, relationship, target, own, slot)
             }
         }
     }

@@ -17,6 +17,7 @@ impl Clone for Slots {
     fn clone(&self) -> Result<Slots, AllocError> {
         match self {
             Slots::One(slot) => Ok(Slots::One(*slot)),
+            Slots::Close(slots) => Ok(Slots::Close(slots.clone()?)),
             Slots::Many(slots) => Ok(Slots::Many(slots.clone()?)),
         }
     }

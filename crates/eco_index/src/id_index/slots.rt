@@ -3,6 +3,7 @@ ghost use Rattle.std.specs.Prelude.{◌≡◌, ◌≢◌, ◌∷◌, ◌&&◌, �
 ghost use Rattle.std.specs.List.{list_any, IsDistinct};
 ghost use Rattle.eco_index.specs.IdIndex.{slots_of, is_empty, is_only, SameSlotsOf, TurnsSlot};
 
+use crate::id_index::slot_list::SlotList;
 use crate::occupancy::Occupancy;
 use eco_ids::TableSlot;
 use indexmap::IndexSet;
@@ -13,7 +14,10 @@ use std::slice;
 pub enum Slots {
     /// This slot.
     One(TableSlot),
-    /// These slots. The last of them may be alone again. The set is boxed, so that what the map moves about stays small.
+    /// These slots, which lie close together. The last of them may be alone again. The list is boxed, as the set is, so that what
+    /// the map moves about stays small.
+    Close(Box<SlotList>),
+    /// These slots, some of which lie far from the others.
     Many(Box<IndexSet<TableSlot>>),
 }
 
@@ -21,7 +25,7 @@ pub enum Slots {
 impl Drop for Slots {
     fn drop(self) {
         match self {
-            Slots::One(_) | Slots::Many(_) => {}
+            Slots::One(_) | Slots::Close(_) | Slots::Many(_) => {}
         }
     }
 }
@@ -34,6 +38,7 @@ impl Slots {
     {
         match self {
             Slots::One(own) => slice::from_ref(own),
+            Slots::Close(slots) => slots.as_slice(),
             Slots::Many(slots) => slots.as_slice(),
         }
     }
@@ -44,6 +49,7 @@ impl Slots {
     {
         match self {
             Slots::One(own) => slot == *own,
+            Slots::Close(slots) => slots.place(slot).is_some(),
             Slots::Many(slots) => slots.contains(&slot),
         }
     }
@@ -59,9 +65,18 @@ impl Slots {
             Slots::One(own) => {
                 let is_new = *own != slot;
                 if is_new {
-                    *self = Slots::Many(Box::new(alloc, set_of_two(alloc, *own, slot)?)?);
+                    *self = both(alloc, *own, slot)?;
                 }
                 Ok(is_new)
+            }
+            Slots::Close(slots) => {
+                if slots.place(slot).is_some() {
+                    return Ok(false);
+                }
+                if !slots.offer(slot)? {
+                    *self = widened(alloc, slots, slot)?;
+                }
+                Ok(true)
             }
             Slots::Many(slots) => Ok(slots.insert(slot)?),
         }
@@ -83,6 +98,10 @@ impl Slots {
     {
         match self {
             Slots::One(own) => tables.has_table(*own),
+            Slots::Close(slots) => {
+                slots.keep_there(tables);
+                !slots.as_slice().is_empty()
+            }
             Slots::Many(slots) => {
                 slots.retain(|slot| tables.has_table(*slot));
                 !slots.is_empty()
@@ -96,8 +115,12 @@ impl Slots {
         ensures taken { TurnsSlot false (slots_of self.old) (slots_of self.new) slot }
         ensures full { is_empty (Some self.old) ≡ false → is_empty (Some self.new) ≡ false }
     {
-        if let Slots::Many(slots) = self {
-            slots.swap_remove(&slot);
+        match self {
+            Slots::One(_) => {}
+            Slots::Close(slots) => slots.take(slot),
+            Slots::Many(slots) => {
+                slots.swap_remove(&slot);
+            }
         }
     }
 }
@@ -115,4 +138,41 @@ fn set_of_two(
     slots.insert(one).unwrap();
     slots.insert(other).unwrap();
     Ok(slots)
+}
+
+// Both slots, which differ.
+#[cold]
+#[inline(never)]
+fn both(alloc: Global, one: TableSlot, other: TableSlot) -> Result<Slots, AllocError>
+    requires { one ≢ other }
+    ensures { IfOk result (λ slots. slots_of slots ≡ one ∷ other ∷ []) }
+{
+    let mut list = SlotList::new(alloc, one.min(other));
+    if list.offer(one)? && list.offer(other)? {
+        return Ok(Slots::Close(Box::new(alloc, list)?));
+    }
+    Ok(Slots::Many(Box::new(alloc, set_of_two(alloc, one, other)?)?))
+}
+
+// The slots of a list, and one that lies far from them.
+#[cold]
+#[inline(never)]
+fn widened(alloc: Global, list: &SlotList, slot: TableSlot) -> Result<Slots, AllocError>
+    ensures turned { IfOk result (λ slots. TurnsSlot true list.now (slots_of slots) slot) }
+    ensures full { IfOk result (λ slots. is_empty (Some slots) ≡ false) }
+{
+    let mut slots = set_of(alloc, list.as_slice())?;
+    slots.insert(slot)?;
+    Ok(Slots::Many(Box::new(alloc, slots)?))
+}
+
+// These slots, as a set.
+fn set_of(alloc: Global, slots: &[TableSlot]) -> Result<IndexSet<TableSlot>, AllocError>
+    ensures { IfOk result (λ set. SameSlotsOf slots.now set.keys) }
+{
+    let mut set = IndexSet::with_capacity(alloc, slots.len())?;
+    for slot in slots {
+        set.insert(*slot)?;
+    }
+    Ok(set)
 }

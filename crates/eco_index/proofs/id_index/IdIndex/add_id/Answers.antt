@@ -1,5 +1,5 @@
-use Rattle.eco_index.proofs.Common.{true, has_one, keys_of, lists_of, matches_id, One, on_err, on_ok}
-use Rattle.eco_index.proofs.Keys.{key_matches, keeps_as, own_keeps, own_turns, turns_as}
+use Rattle.eco_index.proofs.Common.{true, has_one, keys_of, lists_of, matches_id, One, Two, on_err, on_ok}
+use Rattle.eco_index.proofs.Keys.{key_matches, keeps_as, own_turns, turns_as}
 use Rattle.eco_index.proofs.id_index.IdIndex.add_id.Goals as goal
 
 pub returns-in-One-clause-ok : goal.returns-in-One-clause-ok
@@ -18,13 +18,14 @@ returns-in-One-clause-err c =
 
 pub returns-in-Two-clause-ok : goal.returns-in-Two-clause-ok
 returns-in-Two-clause-ok c =
-    rw c.in-Two.is (on_ok c.add_keys-in-Two.result
-    (own_turns c.args.before c.in-Two.relationship c.in-Two.target (lists_of c.args.self.now.slots) (lists_of c.add_keys-in-Two.new.self.slots) c.args.slot
+    rw c.in-Two.is (on_ok c.add_pair.result
+    (own_turns c.args.before c.in-Two.relationship c.in-Two.target (lists_of c.args.self.now.slots) (lists_of c.add_pair.new.self.slots) c.args.slot
     true c.requires)
-    (rw (c.keys_of_pair-keys.ensures, c.own_count.ensures) at c.add_keys-in-Two.ensures.ok))
+    (rw c.own_count-own.ensures at c.add_pair.ensures.ok))
 
 pub returns-in-Two-clause-err : goal.returns-in-Two-clause-err
 returns-in-Two-clause-err c =
-    rw c.in-Two.is (on_err c.add_keys-in-Two.result
-    (own_keeps c.args.before c.in-Two.relationship c.in-Two.target (lists_of c.args.self.now.slots) (lists_of c.add_keys-in-Two.new.self.slots) c.args.slot)
-    (rw (c.keys_of_pair-keys.ensures, c.own_count.ensures) at c.add_keys-in-Two.ensures.err))
+    let i = Two c.in-Two.relationship c.in-Two.target in
+    rw c.in-Two.is (on_err c.add_pair.result
+    (keeps_as (has_one (keys_of i)) (matches_id i) (lists_of c.args.self.now.slots) (lists_of c.add_pair.new.self.slots) c.args.slot (key_matches i))
+    c.add_pair.ensures.err)

@@ -1,11 +1,7 @@
-use Rattle.eco_index.proofs.Common.{◌≡◌, ℕ, false, [], ◌∷◌, sym, arith, Lists, Turns, has_key, has_one, lists_of, Key, Pair, Target, Relationship}
+use Rattle.eco_index.proofs.Common.{◌≡◌, false, [], ◌∷◌, arith, lists_of, Pair, Target, Relationship}
 use Rattle.eco_index.proofs.Common.{AnyPair}
-use Rattle.eco_index.proofs.Joinings.{turns_both}
-use Rattle.eco_index.proofs.Keys.{or_false, turns_as}
+use Rattle.eco_index.proofs.Joinings.{turns_both, turns_last}
 use Rattle.eco_index.proofs.id_index.IdIndex.take_pair.Goals as goal
-
-turns_last : (k : Key) (l l' : Lists) (slot : ℕ) → Turns false (has_key k) l l' slot → Turns false (has_one (k ∷ [])) l l' slot
-turns_last k l l' slot = turns_as false (has_key k) (has_one (k ∷ [])) l l' slot (λ p. sym (or_false (has_key k p)))
 
 pub returns-then-own-eq2 : goal.returns-then-own-eq2
 returns-then-own-eq2 c =
@@ -15,7 +11,7 @@ returns-then-own-eq2 c =
     let target = c.args.target in
     rw c.if-own-eq2.true
     (turns_both false (Pair c.args.relationship target) (Target target ∷ []) own first second c.args.slot c.take.ensures
-    (turns_last (Target target) first second c.args.slot c.take-2.ensures))
+    (turns_last false (Target target) first second c.args.slot c.take-2.ensures))
 
 pub returns-then-own-eq3 : goal.returns-then-own-eq3
 returns-then-own-eq3 c =
@@ -28,7 +24,7 @@ returns-then-own-eq3 c =
     rw c.if-own-eq3.true
     (turns_both false (Pair source target) (Target target ∷ Relationship source ∷ []) own first third c.args.slot c.take.ensures
     (turns_both false (Target target) (Relationship source ∷ []) first second third c.args.slot c.take-2.ensures
-    (turns_last (Relationship source) second third c.args.slot c.take-3.ensures)))
+    (turns_last false (Relationship source) second third c.args.slot c.take-3.ensures)))
 
 pub returns : goal.returns
 returns c =
@@ -44,4 +40,4 @@ returns c =
     (turns_both false (Pair source target) (Target target ∷ Relationship source ∷ AnyPair ∷ []) own first last c.args.slot c.take.ensures
     (turns_both false (Target target) (Relationship source ∷ AnyPair ∷ []) first second last c.args.slot c.take-2.ensures
     (turns_both false (Relationship source) (AnyPair ∷ []) second third last c.args.slot c.take-3.ensures
-    (turns_last AnyPair third last c.args.slot c.take-4.ensures))))
+    (turns_last false AnyPair third last c.args.slot c.take-4.ensures))))

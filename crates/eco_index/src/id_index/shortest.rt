@@ -19,6 +19,10 @@ impl IdIndex {
         let mut shortest = 0;
         let mut fewest = self.listed_count(test, 0);
         for group in 1..groups {
+            if fewest == 0 {
+                // No group is shorter.
+                return shortest;
+            }
             let count = self.listed_count(test, group);
             if count < fewest {
                 shortest = group;

@@ -40,6 +40,22 @@ pub(crate) fn put_behind(
     Ok(())
 }
 
+/// The same, where those that were found before stand in a list.
+#[inline]
+pub(crate) fn put_in_list(
+    found: &mut Vec<TableSlot>,
+    slot: TableSlot,
+    most: usize,
+) -> Result<(), AllocError>
+    ensures { OnOk result (found.new.items ≡ found.old.items ++ slot ∷ []) }
+{
+    if found.len() == found.capacity() {
+        found.reserve(most.max(1))?;
+    }
+    found.push_reserved(slot);
+    Ok(())
+}
+
 /// The entities that stand in the tables in these slots, in their order. An `Err` comes where memory is refused, and never
 /// where there are no slots.
 pub fn entities_in(

@@ -6,7 +6,7 @@ ghost use Rattle.eco_entries.specs.Flat.{ChoicesState};
 ghost use Rattle.eco_archetypes.specs.Archetypes.{type_at, has_rows, ArePassing};
 
 use crate::archetypes::Archetypes;
-use crate::found::{FoundSlots, put_behind};
+use crate::found::{FoundSlots, put_behind, put_in_list};
 use eco_entries::Choices;
 use eco_ids::TableSlot;
 use eco_index::TypeTest;
@@ -14,6 +14,9 @@ use eco_query::Query;
 use eco_tables::Tables;
 use indexmap::IndexSet;
 use std::alloc::{AllocError, Global};
+
+// Of so few slots those whose tables have rows mostly take no memory.
+const FEW_SLOTS: usize = 16;
 
 impl Archetypes {
     /// Keeps the slots of the tables whose types fulfil the query, from now on: the answer is the number by which a
@@ -74,6 +77,18 @@ impl Archetypes {
         ensures all { IfOk result (λ v. v.items ≡ filter (has_rows self.now) slots.now) }
         ensures some { OnErr result (IsTrue (list_any (has_rows self.now) slots.now)) }
     {
+        if slots.len() > FEW_SLOTS {
+            self.many_with_rows(slots)
+        } else {
+            self.few_with_rows(slots)
+        }
+    }
+
+    // The same, which takes no memory where few have rows.
+    fn few_with_rows(&self, slots: &[TableSlot]) -> Result<FoundSlots, AllocError>
+        ensures all { IfOk result (λ v. v.items ≡ filter (has_rows self.now) slots.now) }
+        ensures some { OnErr result (IsTrue (list_any (has_rows self.now) slots.now)) }
+    {
         let mut found = FoundSlots::new(self.alloc);
         for slot in slots {
             if self.tables.row_count(*slot) > 0 {
@@ -81,6 +96,20 @@ impl Archetypes {
             }
         }
         Ok(found)
+    }
+
+    // The same, by a list that takes memory from the first one on: so it is not asked for each where the list lies.
+    fn many_with_rows(&self, slots: &[TableSlot]) -> Result<FoundSlots, AllocError>
+        ensures all { IfOk result (λ v. v.items ≡ filter (has_rows self.now) slots.now) }
+        ensures some { OnErr result (IsTrue (list_any (has_rows self.now) slots.now)) }
+    {
+        let mut found = Vec::new(self.alloc);
+        for slot in slots {
+            if self.tables.row_count(*slot) > 0 {
+                put_in_list(&mut found, *slot, slots.len())?;
+            }
+        }
+        Ok(FoundSlots::from_vec(found))
     }
 }
 

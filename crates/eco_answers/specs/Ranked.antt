@@ -1,5 +1,5 @@
 -- Entities with the places of their tables.
-use Rattle.std.specs.Prelude.{List, map}
+use Rattle.std.specs.Prelude.{List, [], ◌∷◌, map}
 use Rattle.std.specs.Slice.Iter.{iter_rest}
 use Rattle.eco_answers.specs.declared.standing.Standing.{Standing}
 use Rattle.eco_answers.specs.declared.ranked.Ranks.{Ranks}
@@ -11,6 +11,7 @@ use Rattle.eco_answers.specs.Ranking.{in_first}
 -- the list that is kept
 abbrev pub standing_ones : Ranks → List Standing
 standing_ones (kept.Alone es) = map in_first es.items
+standing_ones (kept.Only e) = in_first e ∷ []
 standing_ones (kept.Among ss) = ss.items
 
 -- the list that is left

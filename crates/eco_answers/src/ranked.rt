@@ -1,5 +1,5 @@
 //! Entities with the places of their tables: all of one table, or of several.
-ghost use Rattle.std.specs.Prelude.{◌≡◌, ◌==◌, ◌<◌, length, map, slice_get, Some};
+ghost use Rattle.std.specs.Prelude.{◌≡◌, ◌==◌, ◌<◌, ◌∷◌, [], length, map, slice_get, Some};
 ghost use Rattle.std.specs.Iterator.{at_most};
 ghost use Rattle.std.specs.Map.Iter.{TakesFirst};
 ghost use Rattle.eco_answers.specs.Ranking.{in_first};
@@ -11,7 +11,7 @@ use std::marker::Model;
 use std::slice;
 
 /// Entities, each with the place of its table among some. A contract sees the list of them. Where all stand in the first
-/// table, they are kept without their places, in half the memory.
+/// table, they are kept without their places, in half the memory, and one who stands there alone takes none.
 #[derive(Debug)]
 pub struct Ranked {
     list: Ranks,
@@ -21,6 +21,8 @@ pub struct Ranked {
 enum Ranks {
     // All stand in the first table.
     Alone(Vec<Entity>),
+    // So does the only one.
+    Only(Entity),
     Among(Vec<Standing>),
 }
 
@@ -59,6 +61,15 @@ impl Ranked {
         }
     }
 
+    /// The only one, who stands in the first table.
+    pub fn only(entity: Entity) -> Ranked
+        ensures { result ≡ in_first entity ∷ [] }
+    {
+        Ranked {
+            list: Ranks::Only(entity),
+        }
+    }
+
     /// These, each in the table at its place.
     pub fn among(standings: Vec<Standing>) -> Ranked
         ensures { result ≡ standings.items }
@@ -74,6 +85,7 @@ impl Ranked {
     {
         match &self.list {
             Ranks::Alone(entities) => entities.len(),
+            Ranks::Only(_) => 1,
             Ranks::Among(standings) => standings.len(),
         }
     }
@@ -93,6 +105,7 @@ impl Ranked {
     {
         match &self.list {
             Ranks::Alone(entities) => in_first(entities[place]),
+            Ranks::Only(entity) => in_first(*entity),
             Ranks::Among(standings) => standings[place],
         }
     }
@@ -103,6 +116,7 @@ impl Ranked {
     {
         let rest = match &self.list {
             Ranks::Alone(entities) => Rest::Alone(entities.iter()),
+            Ranks::Only(entity) => Rest::Alone(slice::from_ref(entity).iter()),
             Ranks::Among(standings) => Rest::Among(standings.iter()),
         };
         RankedIter { rest }

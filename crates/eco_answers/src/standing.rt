@@ -45,9 +45,19 @@ pub(crate) fn ranked(
     }
 }
 
-// All who stand in one table, ascending. Rows that were made one after another mostly ascend as they stand: they are copied
-// at once, and nothing is to do.
+// All who stand in one table, ascending. One who stands there alone takes no memory.
 fn alone(alloc: Global, entities: &[Entity]) -> Result<Ranked, AllocError>
+    ensures { IfOk result (λ v. AreRanked (map in_first entities.now) v) }
+{
+    match entities {
+        [only] => Ok(Ranked::only(*only)),
+        _ => together(alloc, entities),
+    }
+}
+
+// The same of any number. Rows that were made one after another mostly ascend as they stand: they are copied at once, and nothing
+// is to do.
+fn together(alloc: Global, entities: &[Entity]) -> Result<Ranked, AllocError>
     ensures { IfOk result (λ v. AreRanked (map in_first entities.now) v) }
 {
     let mut list = Vec::from_slice(alloc, entities)?;

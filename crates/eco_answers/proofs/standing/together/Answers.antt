@@ -1,7 +1,7 @@
 use Rattle.eco_answers.proofs.Common.{rules, IsPermutation, IsSorted, IsPermutation-map, IsPermutation-refl, entity_cmp, in_first}
 use Rattle.eco_answers.proofs.Ranking.{first_sorted}
-use Rattle.eco_answers.proofs.standing.alone.Goals.{then-not-ascend, else-not-ascend}
-use Rattle.eco_answers.proofs.standing.alone.Goals as goal
+use Rattle.eco_answers.proofs.standing.together.Goals.{then-not-ascend, else-not-ascend}
+use Rattle.eco_answers.proofs.standing.together.Goals as goal
 
 pub returns : goal.returns
 returns c =

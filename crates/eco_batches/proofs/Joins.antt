@@ -1,6 +1,7 @@
 -- The loop that joins systems one by one.
 use Rattle.eco_batches.proofs.Common.{◌≡◌, ℕ, ◌+◌, ◌<◌, Bool, true, false, cond, ◌&&◌, ◌||◌, List, [], ◌∷◌, ◌++◌, map, length}
-use Rattle.eco_batches.proofs.Common.{get_or, take, drop, Option, Some, None, IsTrue, traits_in, ◌≤◌, slice_get, take_all, arith, refl, sym, ap, ◌∙◌, subst, true≢false, append_assoc, AllZip}
+use Rattle.eco_batches.proofs.Common.{get_or, take, drop, Option, ◌≤◌, slice_get, refl, sym, ap, ◌∙◌, subst, true≢false, append_assoc, AllZip}
+use Rattle.eco_batches.proofs.Common.{IsTrue, None, Some, arith, take_all, traits_in}
 use Rattle.eco_batches.proofs.Common.{IsDistinct, list_any, drop_all, drop_more, map-append, map_push, take_more, list_any-append, Pattern, pattern_overlaps}
 use Rattle.eco_batches.proofs.Common.{WorldState, has_any, batched, ListsClosed, writes_trait, same_pattern, OutlineModel, IsOutline, clash_at, clash_of}
 use Rattle.eco_batches.proofs.Common.{closed_in, disturbs, kills_in, kills_too, late_at, reads_in, overlaps, Declared, or-false, or_assoc}
@@ -194,7 +195,8 @@ known_by w d edition same_edition (Some o) closed is listed once traits some kil
 
 -- one outline more is known
 pub known_more : (R : Declared → OutlineModel → Type 0) (ds : List Declared) (os : List OutlineModel) (k : ℕ) (d : Declared) → k < length ds
-    → length os ≡ length ds → AllZip R (take k ds) (take k os) → IfSome (slice_get os k) (R (get_or ds k d)) → AllZip R (take (k + 1) ds) (take (k + 1) os)
+    → length os ≡ length ds → AllZip R (take k ds) (take k os) → IfSome (slice_get os k) (R (get_or ds k d))
+    → AllZip R (take (k + 1) ds) (take (k + 1) os)
 known_more R ds os k d below long all known =
     let there : k < length os = omega (arith, below, long) in
     let one : OutlineModel = record { closed = []; writes_traits = false; kills = false } in
@@ -204,7 +206,7 @@ known_more R ds os k d below long all known =
     (zip_push R (take k ds) (take k os) (get_or ds k d) (get_or os k one) all (subst (λ o. IfSome o (R (get_or ds k d))) at known)))
 
 -- all of them are
-pub known_all : (R : Declared → OutlineModel → Type 0) (ds : List Declared) (os : List OutlineModel) (k : ℕ) → length ds ≤ k → length os ≡ length ds
-    → AllZip R (take k ds) (take k os) → AllZip R ds os
+pub known_all : (R : Declared → OutlineModel → Type 0) (ds : List Declared) (os : List OutlineModel) (k : ℕ) → length ds ≤ k
+    → length os ≡ length ds → AllZip R (take k ds) (take k os) → AllZip R ds os
 known_all R ds os k end long all =
     subst (AllZip R ds) (take_all k os (omega (arith, end, long))) (subst (λ xs. AllZip R xs (take k os)) (take_all k ds end) all)

@@ -1,5 +1,6 @@
 -- What some things take and record in order, when one more of them has recorded.
-use Rattle.eco_bodies.proofs.Common.{◌≡◌, ℕ, ◌+◌, ◌<◌, ◌≤◌, Bool, List, [], ◌∷◌, ◌++◌, Some, length, slice_get, take, drop, refl, sym, ap}
+use Rattle.eco_bodies.proofs.Common.{◌≡◌, ℕ, ◌+◌, ◌≤◌, List, [], ◌∷◌, ◌++◌, Some, length, slice_get, take, drop, refl, sym, ap}
+use Rattle.eco_bodies.proofs.Common.{◌<◌, Bool}
 use Rattle.eco_bodies.proofs.Common.{◌∙◌, append_assoc, length-append, subst, arith, get_or, get_or_from_slice_get, slice_get_within, Entity}
 use Rattle.std.proofs.lemmas.List.{append-nil, drop-drop, drop_at, take_more, drop_more, take-append-drop}
 use Rattle.eco_ids.specs.Run.{Command}

@@ -23,6 +23,21 @@ use std::alloc::{AllocError, Global};
 // So many indices cost no more to look at than one entity to sort.
 const INDICES_PER_ENTITY: usize = 16;
 
+// Tables that are found have rows. Where there are so few indices for each, a list of who stands there that grows costs no more
+// than a look at each table.
+const INDICES_PER_TABLE: usize = 4;
+
+// How many stand in the tables of these slots, or fewer, where these are many among the indices.
+fn count_among(tables: &Tables, slots: &[TableSlot], indices: usize) -> usize
+    ensures { 0 < result → 0 < length slots.now }
+{
+    if slots.len() >= indices / INDICES_PER_TABLE {
+        slots.len()
+    } else {
+        row_count(tables, slots)
+    }
+}
+
 // All who stand in the tables of these slots, ascending: by a walk over the indices where they are many of those who live,
 // and else by sorting them. An `Err` comes where memory is refused, and never where there are no slots.
 fn standing_in(
@@ -42,8 +57,8 @@ fn standing_in(
     eco_ids::order::handles_are_ordered();
     eco_ids::order::ascending_lists_are_sets();
     tables.rows_have_ids();
-    let count = row_count(tables, slots);
     let indices = entities.high() as usize;
+    let count = count_among(tables, slots, indices);
     // The rows of one table mostly ascend as they stand.
     if slots.len() > 1 && indices / INDICES_PER_ENTITY <= count {
         let list = walked(alloc, entities, tables.slot_count(), slots, count)?;

@@ -2,6 +2,8 @@
 use Rattle.eco_tables.proofs.Common.{◌≡◌, ℕ, ℤ, ◌-◌, ◌+◌, ◌++◌, ◌≤◌, ◌<◌, Bool, true, if◌then◌else◌, List, length, get_or}
 use Rattle.eco_tables.proofs.Common.{set, take, map, sym, ap, ◌∙◌, arith, pos, replicate, swap_remove, map-set, get_or-map, length-map, take-map, take_at}
 use Rattle.eco_tables.proofs.Common.{take_all, map-append, length-replicate, replicate-append-replicate, Value, padded, zeros, Fits}
+use Rattle.eco_tables.proofs.Common.{[], ◌∷◌, ◌&&◌, list_all, refl, suc, zero}
+use Rattle.std.specs.Ordering.{int_eq}
 use Rattle.eco_ids.specs.declared.value.TheConstants.{FIELD_COUNT}
 use Rattle.eco_ids.proofs.Lists.{map-replicate}
 
@@ -23,6 +25,12 @@ map_put w xs i v fits = map-set padded xs i (take w v.0) ∙ ap (set (map padded
 -- a value that was made of so many fields fits them
 pub fits_padded : (n : ℕ) (fs : List ℤ) → length fs ≡ n → Fits n (padded fs)
 fits_padded n fs is = ap padded (sym (take_at fs (replicate (FIELD_COUNT - length fs) (pos 0)) n is))
+
+-- zeros behind some fields change nothing of whether all are zeros
+pub zeros_behind : (n : ℕ) (fs : List ℤ) → list_all (λ x. int_eq x (pos 0)) (fs ++ replicate n (pos 0)) ≡ list_all (λ x. int_eq x (pos 0)) fs
+zeros_behind zero [] = refl
+zeros_behind (suc n) [] = zeros_behind n []
+zeros_behind n (f ∷ fs) = ap (λ b. int_eq f (pos 0) && b) (zeros_behind n fs)
 
 -- zeros in some fields are zeros in all
 pub zeros_padded : (w : ℕ) → w ≤ FIELD_COUNT → padded (replicate w (pos 0)) ≡ zeros

@@ -1,7 +1,10 @@
 //! The values of one id, a place for each row, in as many fields as the id has.
 ghost use Rattle.std.specs.Prelude.{◌≡◌, ◌<◌, ◌≤◌, ◌+◌, ◌-◌, ◌++◌, ◌^◌, [], length, map, take, replicate, vec_len};
 ghost use Rattle.std.specs.Prelude.{vec_capacity, slice_index_or, slice_set, ◌∷◌, OnOk, IfOk, ◌↔◌, IsTrue};
-ghost use Rattle.std.specs.List.{swap_remove};
+ghost use Rattle.std.specs.Prelude.{pos};
+ghost use Rattle.std.specs.List.{list_all, swap_remove};
+ghost use Rattle.std.specs.Ordering.{int_eq};
+ghost use Rattle.eco_ids.specs.Data.{is_zero_past};
 ghost use Rattle.eco_ids.specs.World.{padded, zeros};
 ghost use Rattle.eco_tables.specs.Column.{ColumnState, Fits, kind_of, pushed, lengthened, with_removed, column_with_value, emptied, contents};
 ghost use Rattle.eco_tables.specs.Values.{fields_of, whole_values};
@@ -148,6 +151,27 @@ fn read<const N: usize>(rows: &Vec<[i64; N]>, row: usize) -> Value
     ensures fits { Fits N result }
 {
     whole(rows[row])
+}
+
+// Whether all these fields are 0.
+#[inline(always)]
+fn are_zero(fields: &[i64]) -> bool
+    ensures { result ≡ list_all (λ x. int_eq x (pos 0)) fields.now }
+{
+    fields.iter().all(|field| *field == 0)
+}
+
+// The value in a row, and whether it is zeros, which the fields that are kept tell.
+#[inline(always)]
+#[tactic(auto, using(crate::proofs::Packing::zeros_behind))]
+fn read_told<const N: usize>(rows: &Vec<[i64; N]>, row: usize) -> (Value, bool)
+    requires few { N ≤ FIELD_COUNT }
+    requires row { row < length (map padded rows.now.items) }
+    ensures value { result.0 ≡ slice_index_or (map padded rows.now.items) row zeros }
+    ensures zero { result.1 ≡ is_zero_past 0 result.0 }
+{
+    let fields = &rows[row];
+    (whole(*fields), are_zero(fields))
 }
 
 // Writes the value in a row, which is no wider than the fields.
@@ -373,6 +397,16 @@ impl Column {
         ensures fits { Fits self.now.width result }
     {
         at_each_width!(&self.fields, |rows| read(rows, row))
+    }
+
+    /// The value in a row, and whether it is zeros: of a value only the fields that are kept are looked at.
+    #[inline(always)]
+    pub fn told_value(&self, row: usize) -> (Value, bool)
+        requires { row < length self.now.values }
+        ensures value { result.0 ≡ slice_index_or self.now.values row zeros }
+        ensures zero { result.1 ≡ is_zero_past 0 result.0 }
+    {
+        at_each_width!(&self.fields, |rows| read_told(rows, row))
     }
 
     /// Writes the value in a row.

@@ -7,6 +7,7 @@ ghost use Rattle.std.specs.List.{swap_remove, All};
 ghost use Rattle.std.specs.FinMap.Entries.{find};
 ghost use Rattle.eco_ids.specs.Order.{id_cmp, has_item};
 ghost use Rattle.eco_ids.specs.declared.value.TheConstants.{FIELD_COUNT};
+ghost use Rattle.eco_ids.specs.Data.{is_zero_past};
 ghost use Rattle.eco_ids.specs.World.{zeros};
 ghost use Rattle.eco_tables.specs.Column.{value_in, with_held, retyped};
 ghost use Rattle.eco_tables.specs.Table.{TableState, TableRow, entities_of, HasIds, Agree, FitsId, width_in, empty_table};
@@ -178,16 +179,17 @@ impl Table {
         }
     }
 
-    /// The value of an id in a row, where fields of it are kept: none where the type lacks the id, or where each value of it is
-    /// zeros, as it has no column.
+    /// The value of an id in a row, where fields of it are kept, and whether it is zeros: none where the type lacks the id, or
+    /// where each value of it is zeros, as it has no column.
     #[inline(always)]
-    pub fn kept_value(&self, row: usize, id: Id) -> Option<Value>
+    pub fn kept_value(&self, row: usize, id: Id) -> Option<(Value, bool)>
         requires { row < length self.now.rows }
-        ensures { MatchOption result (IsUnkept self.now row id)
-            (λ v. (r : TableRow) → find id_cmp id (slice_index_or self.now.rows row r).held ≡ Some v) }
+        ensures kept { MatchOption result (IsUnkept self.now row id)
+            (λ v. (r : TableRow) → find id_cmp id (slice_index_or self.now.rows row r).held ≡ Some v.0) }
+        ensures zero { IfSome result (λ v. v.1 ≡ is_zero_past 0 v.0) }
     {
         let place = find_column(self.columns.as_slice(), id)?;
-        Some(self.columns[place].value(row))
+        Some(self.columns[place].told_value(row))
     }
 
     /// Writes that one value, which is no wider than the id's, and takes no memory. The answer is whether the type has the

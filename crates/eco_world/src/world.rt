@@ -6,7 +6,7 @@ ghost use Rattle.eco_ids.specs.declared.entity.Entity.{Entity as Entities};
 ghost use Rattle.eco_ids.specs.declared.id.Id.{Id as Ids};
 ghost use Rattle.eco_ids.specs.declared.refusal.Refusal.TheVariants.{OutOfMemory};
 ghost use Rattle.eco_ids.specs.Builtin.{is_builtin};
-ghost use Rattle.eco_ids.specs.Data.{arity, arity_of, is_zero_past, value_of};
+ghost use Rattle.eco_ids.specs.Data.{arity, arity_of, value_of};
 ghost use Rattle.eco_ids.specs.Edition.{builtin_count};
 ghost use Rattle.eco_ids.specs.Lawful.{IsLawful};
 ghost use Rattle.eco_ids.specs.Layout.{IsLayout, ListedTable};
@@ -24,7 +24,6 @@ use crate::builtins::builtin_store;
 use crate::entity_ref::EntityRef;
 use crate::kept_query::KeptQuery;
 use crate::table_rows::TableRows;
-use crate::world::changes::is_zero_past;
 use eco_grammar::Names;
 use eco_ids::{Edition, Entity, Id, Pattern, Refusal, TypeList, Value};
 use eco_store::{Seed, Store, Table};
@@ -285,8 +284,8 @@ impl World {
         ensures { (e : Entities) → StandsInRow self.now e table.now row → result ≡ value_of self.now e id }
     {
         self.is_lawful();
-        let value = table.kept_value(row, id)?;
-        if self.is_value(id, value) {
+        let (value, is_zero) = table.kept_value(row, id)?;
+        if self.is_value(id, is_zero) {
             Some(value)
         } else {
             None
@@ -296,10 +295,23 @@ impl World {
     // Whether what a table keeps of an id is a value. What it keeps fields of is mostly data, and an id that is no data has
     // zeros: so of these alone it is asked.
     #[inline(always)]
-    fn is_value(&self, id: Id, kept: Value) -> bool
-        ensures { result ≡ (not (is_zero_past 0 kept) || is_some (arity self.now id)) }
+    fn is_value(&self, id: Id, is_zero: bool) -> bool
+        ensures { result ≡ (not is_zero || is_some (arity self.now id)) }
     {
-        !is_zero_past(kept, 0) || self.arity(id).is_some()
+        if !is_zero {
+            return true;
+        }
+        // A copy of its own, since what is handed over stands in memory: so an id whose value is not zeros need not.
+        let asked = id;
+        self.is_data(asked)
+    }
+
+    // Whether values of the id have fields. Apart, so that a value that is not zeros is read without it.
+    #[inline(never)]
+    fn is_data(&self, id: Id) -> bool
+        ensures { result ≡ is_some (arity self.now id) }
+    {
+        self.arity(id).is_some()
     }
 
     /// How many fields the values of the id have, where it is data: an entity's are its own; a pair has its

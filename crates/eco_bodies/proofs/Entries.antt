@@ -1,5 +1,5 @@
 -- What stands at the slots of a row that its query answers.
-use Rattle.eco_bodies.proofs.Common.{◌≡◌, ℕ, true, cond, ◌||◌, List, [], ◌∷◌, ◌++◌, length, refl, sym, ap, ◌∙◌, subst, IsTrue}
+use Rattle.eco_bodies.proofs.Common.{◌≡◌, ℕ, cond, ◌||◌, List, [], ◌∷◌, ◌++◌, length, refl, sym, ap, ◌∙◌, subst, IsTrue}
 use Rattle.eco_bodies.proofs.Common.{inl, inr, Option, Some, None, arith, eqb-true, true≢false, list_any, list_any-append, none-some, Id, Pattern}
 use Rattle.eco_bodies.proofs.Common.{pattern_matches, or_left, or_parts, or_right, slice_get, QuerySlot, matches_one, action_writes, asks_presence}
 use Rattle.eco_bodies.proofs.Common.{patterns_at, script_writes, slot_at, Action, AddId, RemoveId, Put, Sum, Kill, Spawn}

@@ -1,5 +1,5 @@
 -- What a script records.
-use Rattle.std.specs.Prelude.{ℕ, Bool, true, List, [], ◌∷◌, Option, Some, None, option_and_then, option_map, option_to_list, if◌then◌else◌}
+use Rattle.std.specs.Prelude.{ℕ, Bool, true, List, [], ◌∷◌, Option, Some, None, option_and_then, option_to_list, if◌then◌else◌}
 use Rattle.eco_ids.specs.declared.entity.Entity.{Entity}
 use Rattle.eco_ids.specs.declared.id.Id.{Id}
 use Rattle.eco_ids.specs.declared.pattern.Pattern.{Pattern}
@@ -8,7 +8,7 @@ use Rattle.eco_ids.specs.Run.{Command, Create, Add, Remove, Set, Delete}
 use Rattle.eco_systems.specs.Rows.{ValuedRow}
 use Rattle.eco_systems.specs.Systems.{matches_one}
 use Rattle.eco_bodies.specs.Lent.{item_at}
-use Rattle.eco_bodies.specs.Sums.{sum_of}
+use Rattle.eco_bodies.specs.Sums.{sum_of_both}
 use Rattle.eco_bodies.specs.Taking.{commands_in_turn, taken_of}
 use Rattle.eco_bodies.specs.declared.action.Action.{Action}
 use Rattle.eco_bodies.specs.declared.action.Action.TheVariants.{AddId, RemoveId, Put, Sum, Kill, Spawn}
@@ -19,7 +19,7 @@ value_at row slot = option_and_then (λ i. item_at row.values slot) (item_at row
 
 -- the sum of the values of two slots, where both have one
 abbrev pub sum_at : ValuedRow → ℕ → ℕ → Option Value
-sum_at row into from = option_and_then (λ a. option_map (λ b. sum_of a b) (value_at row from)) (value_at row into)
+sum_at row into from = sum_of_both (value_at row into) (value_at row from)
 
 -- an entry is set to a value, where both are there. An entry that matches no pattern written, as it may stand in a row of another
 -- query than the script's, is none of its slots'

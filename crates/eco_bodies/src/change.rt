@@ -4,14 +4,13 @@ ghost use Rattle.eco_ids.specs.declared.entity.Entity.{Entity as EntityData};
 ghost use Rattle.eco_ids.specs.declared.refusal.Refusal.TheVariants.{OutOfMemory};
 ghost use Rattle.eco_systems.specs.Systems.{matches_one};
 ghost use Rattle.eco_bodies.specs.Lent.{item_at};
-ghost use Rattle.eco_bodies.specs.Scripts.{action_commands, change_by_action, set_of, spawned, sum_at, takes_draws, value_at};
+ghost use Rattle.eco_bodies.specs.Scripts.{action_commands, change_by_action, set_of, spawned, sum_at, takes_draws};
 ghost use Rattle.eco_bodies.specs.Taking.{OneTook};
 ghost use Rattle.eco_stages.specs.Taking.{Broke, stopped_by};
 
 use crate::action::Action;
 use crate::recording::put_command;
 use crate::row::BodyRow;
-use crate::sum::sum_of;
 use eco_ids::{Entity, Id, Pattern, Refusal, Value};
 use eco_stages::{Command, Draws, Stage};
 use std::alloc::AllocError;
@@ -31,17 +30,6 @@ fn entry_at<R: BodyRow>(row: &R, slot: usize) -> Option<Id>
 {
     match row.entries().get(slot) {
         Some(entry) => *entry,
-        None => None,
-    }
-}
-
-// The value of a slot's entry, where there are both.
-#[inline(always)]
-fn value_at<R: BodyRow>(row: &R, slot: usize) -> Option<Value>
-    ensures { result ≡ value_at (R.row_of row.now) slot }
-{
-    match entry_at(row, slot) {
-        Some(_) => row.value(slot),
         None => None,
     }
 }
@@ -98,11 +86,12 @@ fn add_up<R: BodyRow>(
     let Some(id) = entry_at(row, into) else {
         return Ok(());
     };
-    match (row.value(into), value_at(row, from)) {
-        (Some(value), Some(other)) => {
-            set_id(writes, row.entity(), id, sum_of(value, other), stage)
-        }
-        _ => Ok(()),
+    if entry_at(row, from).is_none() {
+        return Ok(());
+    }
+    match row.sum(into, from) {
+        Some(sum) => set_id(writes, row.entity(), id, sum, stage),
+        None => Ok(()),
     }
 }
 

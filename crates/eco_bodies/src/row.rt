@@ -2,7 +2,9 @@
 ghost use Rattle.std.specs.Prelude.{◌≡◌};
 ghost use Rattle.eco_systems.specs.Rows.{ValuedRow};
 ghost use Rattle.eco_bodies.specs.Lent.{item_at};
+ghost use Rattle.eco_bodies.specs.Sums.{sum_of_both};
 
+use crate::sum::sum_of;
 use eco_ids::{Entity, Id, Value};
 
 /// A row of a system's query: an entity, its entry in each slot, and a value where the entry is data and the slot's access
@@ -24,6 +26,19 @@ pub trait BodyRow {
     /// and where its access is neither in nor inout.
     fn value(&self, slot: usize) -> Option<Value>
         ensures { result ≡ item_at (row_of self.now).values slot };
+
+    /// The sum of the values in two slots, where there are both. A row whose values stand in columns may know how many fields
+    /// there are to add.
+    #[inline(always)]
+    fn sum(&self, into: usize, from: usize) -> Option<Value>
+        ensures { result ≡ sum_of_both (item_at (row_of self.now).values into)
+            (item_at (row_of self.now).values from) }
+    {
+        match (self.value(into), self.value(from)) {
+            (Some(value), Some(other)) => Some(sum_of(value, other)),
+            _ => None,
+        }
+    }
 }
 
 /// A row whose entries and values stand in slices, one or none for each slot.

@@ -1,11 +1,13 @@
 //! A column that a slot of a query shows.
 ghost use Rattle.std.specs.Prelude.{◌≡◌, ◌≤◌, ℕ, None, map, slice_get};
 ghost use Rattle.eco_ids.specs.World.{padded};
+ghost use Rattle.eco_bodies.specs.Sums.{sum_of_both};
 ghost use Rattle.eco_systems.specs.Rows.{entry_value};
 ghost use Rattle.eco_tables.specs.Values.{whole_values};
 ghost use Rattle.eco_frame.specs.Rows.{lent_in, lent_value, shown_in};
 
 use crate::row::shows_values;
+use eco_bodies::{sum_in_row, sum_of};
 use eco_ids::value::FIELD_COUNT;
 use eco_ids::{Id, Value};
 use eco_query::Slot;
@@ -94,5 +96,28 @@ impl<'a> Column<'a> {
             Values::Seven(rows) => value_at(rows, row),
             Values::Eight(rows) => value_at(rows, row),
         }
+    }
+
+    /// The sum of the value in a row and that of another column. Columns of as many fields, of which most have few, add just these.
+    #[inline(always)]
+    pub(crate) fn sum(&self, other: &Column<'_>, row: usize) -> Option<Value>
+        ensures { result ≡ sum_of_both (shown_in row self.now) (shown_in row other.now) }
+    {
+        match (self.values, other.values) {
+            (Values::One(rows), Values::One(others)) => sum_in_row(rows, others, row),
+            (Values::Two(rows), Values::Two(others)) => sum_in_row(rows, others, row),
+            (Values::Three(rows), Values::Three(others)) => sum_in_row(rows, others, row),
+            (Values::Four(rows), Values::Four(others)) => sum_in_row(rows, others, row),
+            _ => self.sum_of_any(other, row),
+        }
+    }
+
+    // The same of columns of any number of fields.
+    fn sum_of_any(&self, other: &Column<'_>, row: usize) -> Option<Value>
+        ensures { result ≡ sum_of_both (shown_in row self.now) (shown_in row other.now) }
+    {
+        let value = self.value(row)?;
+        let others = other.value(row)?;
+        Some(sum_of(value, others))
     }
 }

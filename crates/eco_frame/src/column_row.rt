@@ -35,4 +35,12 @@ impl BodyRow for ColumnRow<'_> {
             None => None,
         }
     }
+
+    #[inline(always)]
+    fn sum(&self, into: usize, from: usize) -> Option<Value> {
+        match (self.columns.get(into), self.columns.get(from)) {
+            (Some(column), Some(other)) => column.sum(other, self.row),
+            _ => None,
+        }
+    }
 }

@@ -54,7 +54,8 @@ fn sums_of<const N: usize>(a: &[i64; N], b: &[i64; N]) -> [i64; N]
 #[inline(always)]
 pub fn sum_in_row<const N: usize>(one: &[[i64; N]], other: &[[i64; N]], row: usize) -> Option<Value>
     requires { N ≤ FIELD_COUNT }
-    ensures { result ≡ sum_of_both (slice_get (map padded one.now) row) (slice_get (map padded other.now) row) }
+    ensures { result ≡ sum_of_both (slice_get (map padded one.now) row)
+        (slice_get (map padded other.now) row) }
 {
     let a = one.get(row)?;
     let b = other.get(row)?;

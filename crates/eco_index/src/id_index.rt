@@ -227,10 +227,10 @@ impl IdIndex {
     ) -> Result<(), AllocError>
         requires least { 2 ≤ own }
         requires most { own ≤ 4 }
-        ensures ok { OnOk result
-            (Turns true (has_one (take own (keys_of (Two relationship target)))) (lists_in self.old) (lists_in self.new) slot) }
-        ensures err { OnErr result
-            (KeepsRest (has_one (keys_of (Two relationship target))) (lists_in self.old) (lists_in self.new) slot) }
+        ensures ok { OnOk result (Turns true (has_one (take own (keys_of (Two relationship target))))
+            (lists_in self.old) (lists_in self.new) slot) }
+        ensures err { OnErr result (KeepsRest (has_one (keys_of (Two relationship target)))
+            (lists_in self.old) (lists_in self.new) slot) }
     {
         self.add(alloc, Key::Pair(relationship, target), slot)?;
         self.add(alloc, Key::Target(target), slot)?;

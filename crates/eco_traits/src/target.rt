@@ -123,7 +123,8 @@ fn single_target<H: Holdings>(
     requires own { Some own.now ≡ type_of_entity (H.world holdings.now) entity }
     requires traits { Some traits.now ≡ type_of_entity (H.world holdings.now) single }
     ensures target { FindsTarget (H.world holdings.now) entity (One single) result }
-    ensures own { IfOk result (λ target. is_own_type target ≡ has (H.world holdings.now) entity (One single)) }
+    ensures own { IfOk result (λ target. is_own_type target
+        ≡ has (H.world holdings.now) entity (One single)) }
     ensures there { IfOk result (TakesOwn (H.world holdings.now) entity) }
 {
     if comes_freely(holdings, single, traits.as_slice()) {

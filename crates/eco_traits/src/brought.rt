@@ -12,7 +12,7 @@ use crate::implied::has_with;
 use crate::prospect::is_no_trait;
 use crate::walk::target_by;
 use eco_ids::entity::WITH;
-use eco_ids::{Entity, INLINE_IDS, Id, TypeList};
+use eco_ids::{Entity, FEW_IDS, Id, TypeList};
 use std::alloc::{AllocError, Global};
 
 /// Whether a single id and what it brings come to any entity, whatever that has, where these are the ids of its own: none of
@@ -62,7 +62,7 @@ pub(crate) fn with_brought(
     ensures ascending { IsTrue (is_ascending id_cmp ids.now) }
 {
     let own = ids.as_slice();
-    if own.len() > INLINE_IDS {
+    if own.len() > FEW_IDS {
         let mut all = ids.try_copy()?;
         put_brought(&mut all, single, traits)?;
         return Ok(all);

@@ -8,7 +8,7 @@ ghost use Rattle.eco_archetypes.specs.Archetypes.{type_at, FindsRoom};
 
 use crate::archetypes::{Archetypes, are_same, type_in};
 use eco_entities::EntityIndex;
-use eco_ids::{INLINE_IDS, Id, TableSlot, TypeList};
+use eco_ids::{FEW_IDS, Id, TableSlot, TypeList};
 use std::alloc::AllocError;
 
 // The type with one id in the place of another.
@@ -92,7 +92,7 @@ impl Archetypes {
             (λ n. type_at self.now n ≡ Some (exchanged (table_in self.now slot).ids leaving coming)) }
     {
         // To compare a few ids costs less than to look for two edges, which lie apart from their tables.
-        if type_in(&self.tables, slot).as_slice().len() <= INLINE_IDS
+        if type_in(&self.tables, slot).as_slice().len() <= FEW_IDS
             && let Some(to) = self.first_exchanged(slot, leaving, coming)
         {
             return Some(to);

@@ -5,18 +5,21 @@ ghost use Rattle.eco_archetypes.specs.Widths.{AreWidths, IsWidth};
 
 use crate::archetypes::Archetypes;
 use eco_entities::EntityIndex;
-use eco_ids::{INLINE_IDS, Id};
+use eco_ids::Id;
 use smallvec::SmallVec;
 use std::alloc::AllocError;
 
+/// How many widths there is room for without memory.
+const INLINE_WIDTHS: usize = 8;
+
 impl Archetypes {
     /// How many fields a new table may keep of the values of each of these ids. They take memory only for more than
-    /// [`INLINE_IDS`] ids. An `Err` comes where memory is refused.
+    /// [`INLINE_WIDTHS`] ids. An `Err` comes where memory is refused.
     pub(crate) fn widths_of(
         &self,
         entities: &EntityIndex,
         ids: &[Id],
-    ) -> Result<SmallVec<u8, INLINE_IDS>, AllocError>
+    ) -> Result<SmallVec<u8, INLINE_WIDTHS>, AllocError>
         ensures { IfOk result (λ widths. AreWidths (need entities.now) self.now ids.now widths.items) }
     {
         let mut widths = SmallVec::new(self.alloc);

@@ -14,6 +14,7 @@ use Rattle.eco_traits.proofs.Joined.{all_ascend, all_join, either_way, leads_to,
 use Rattle.eco_traits.proofs.Members.{has_append, only}
 use Rattle.eco_traits.proofs.Traits.{not_so}
 use Rattle.eco_traits.proofs.Verdicts.{judged_cycle}
+use Rattle.std.proofs.lemmas.List.Folds.{list_any_at}
 
 -- ---- one id more is looked at
 
@@ -58,6 +59,13 @@ frees_more w ids k d l before here = λ x h.
       | inl m ↦ before x m
       | inr m ↦ here x (only same_id (get_or ids k d) (Two WITH x) m)
     ]
+
+-- each of those that bring freely does so
+pub frees_each : (w : WorldState) (ids : List Id) (k : ℕ) (d : Id) → k < length ids → BringFreely w ids
+    → (x : Entity) → get_or ids k d ≡ Two WITH x → IsNoTrait w.edition x × LacksWith w x
+frees_each w ids k d l free x is =
+    let i = Two WITH x in
+    free x (list_any_at (λ y. id_eq y i) ids k d l (subst (λ y. IsTrue (id_eq y i)) (sym is) (id_eq_itself i)))
 
 -- ids that are put into an empty list are that list
 pub put_first : (empty ids list own : List Id) → empty ≡ [] → ids ≡ own → list ≡ fold (with_item id_cmp) empty ids → IsTrue (is_ascending id_cmp own)

@@ -1,5 +1,5 @@
 //! A single id that comes with what it brings along.
-ghost use Rattle.std.specs.Prelude.{◌≡◌, fold, IfOk, IsTrue, OnOk};
+ghost use Rattle.std.specs.Prelude.{◌≡◌, ◌↔◌, fold, IfOk, IsTrue, OnOk};
 ghost use Rattle.eco_ids.specs.declared.entity.Entity.{Entity as EntityData};
 ghost use Rattle.eco_ids.specs.declared.entity.TheConstants.{WITH as WITH_DATA};
 ghost use Rattle.eco_ids.specs.declared.id.Id.TheVariants.{Two};
@@ -19,7 +19,7 @@ use std::alloc::{AllocError, Global};
 /// them is a trait that may come too late, and what it brings brings nothing more. It is so with most that bring others.
 #[inline(always)]
 pub(crate) fn comes_freely<H: Holdings>(holdings: &H, single: Entity, traits: &[Id]) -> bool
-    ensures { IsTrue result → ComesFreely (H.world holdings.now) single traits.now }
+    ensures { IsTrue result ↔ ComesFreely (H.world holdings.now) single traits.now }
 {
     is_no_trait(holdings.edition(), single) && bring_freely(holdings, traits)
 }
@@ -27,7 +27,7 @@ pub(crate) fn comes_freely<H: Holdings>(holdings: &H, single: Entity, traits: &[
 // Whether what the ids bring is no such trait, and brings nothing more.
 #[inline(always)]
 fn bring_freely<H: Holdings>(holdings: &H, ids: &[Id]) -> bool
-    ensures { IsTrue result → BringFreely (H.world holdings.now) ids.now }
+    ensures { IsTrue result ↔ BringFreely (H.world holdings.now) ids.now }
 {
     for id in ids {
         if !brings_freely(holdings, *id) {
@@ -40,8 +40,8 @@ fn bring_freely<H: Holdings>(holdings: &H, ids: &[Id]) -> bool
 // The same of one id.
 #[inline(always)]
 fn brings_freely<H: Holdings>(holdings: &H, id: Id) -> bool
-    ensures { IsTrue result → (x : EntityData) → id ≡ Two WITH_DATA x
-        → IsNoTrait (H.world holdings.now).edition x × LacksWith (H.world holdings.now) x }
+    ensures { IsTrue result ↔ ((x : EntityData) → id ≡ Two WITH_DATA x
+        → IsNoTrait (H.world holdings.now).edition x × LacksWith (H.world holdings.now) x) }
 {
     match target_by(id, WITH) {
         Some(target) => is_no_trait(holdings.edition(), target) && !has_with(holdings, target),

@@ -56,7 +56,7 @@ pub(crate) fn closure_by<H: Holdings>(
 
 // Whether the target of a pair of With among the ids has such a pair itself.
 fn bring_more<H: Holdings>(holdings: &H, ids: &[Id]) -> bool
-    ensures exact { IsFalse result → spec.BringNoMore (H.world holdings.now) ids.now }
+    ensures exact { IsFalse result ↔ spec.BringNoMore (H.world holdings.now) ids.now }
     ensures some { IsTrue result → IsTrue (list_any is_with ids.now) }
 {
     for id in ids {
@@ -69,8 +69,8 @@ fn bring_more<H: Holdings>(holdings: &H, ids: &[Id]) -> bool
 
 // The same of one id.
 fn brings_more<H: Holdings>(holdings: &H, id: Id) -> bool
-    ensures exact { IsFalse result → (x : EntityData) → id ≡ Two WITH_DATA x
-        → spec.LacksWith (H.world holdings.now) x }
+    ensures exact { IsFalse result ↔ ((x : EntityData) → id ≡ Two WITH_DATA x
+        → spec.LacksWith (H.world holdings.now) x) }
     ensures some { IsTrue result → IsTrue (is_with id) }
 {
     match target_by(id, WITH) {

@@ -25,7 +25,7 @@ pub returns-clause-exact : goal.returns-clause-exact
 returns-clause-exact g c =
     made_of c.with_targets.result
     (λ s given up. flat_closure (g.H.Holdings.world c.args.holdings.now) c.args.id c.args.traits.now c.requires
-    (c.bring_more.ensures.exact c.if-bring_more.false) s given up)
+    (c.bring_more.ensures.exact.0 c.if-bring_more.false) s given up)
     c.with_targets.ensures.members c.with_targets.ensures.ascending
 
 pub returns-clause-alone : goal.returns-clause-alone

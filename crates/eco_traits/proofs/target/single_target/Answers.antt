@@ -6,7 +6,7 @@ pub returns-then-comes_freely-clause-target : goal.returns-then-comes_freely-cla
 returns-then-comes_freely-clause-target g c =
     let w = g.H.Holdings.world c.args.holdings.now in
     freely_leads_to w c.args.entity c.args.single c.args.traits.now c.requires.traits
-    (subst (ComesFreely w c.args.single) c.as_slice.ensures.ids (c.comes_freely.ensures c.if-comes_freely.true))
+    (subst (ComesFreely w c.args.single) c.as_slice.ensures.ids (c.comes_freely.ensures.0 c.if-comes_freely.true))
     c.args.own.now c.in_ok-ids.ids c.requires.lives c.requires.absent c.requires.sound c.requires.own c.with_brought.ensures.ascending
     (subst (HasBrought c.in_ok-ids.ids c.args.own.now c.args.single) c.as_slice-then-comes_freely.ensures.ids c.in_ok-ids.ensures.members)
     c.in_ok-ids.ensures.up

@@ -6,7 +6,7 @@ use Rattle.std.proofs.lemmas.Grind.{get_or_default_zero}
 use Rattle.std.proofs.lemmas.List.Folds.{list_any-append, list_any_more}
 use Rattle.eco_index.proofs.Common.{if◌then◌else◌, take}
 use Rattle.eco_index.proofs.Keys.{or_false}
-use Rattle.eco_index.specs.SlotList.{ArePlaced}
+use Rattle.eco_index.specs.SlotList.{LeadToPlaces}
 use Rattle.std.specs.List.{IsDistinct, swap_remove}
 use Rattle.std.specs.List.Sorted.{IsPermutation}
 use Rattle.std.proofs.lemmas.List.Sorted.{IsPermutation-swap_remove, list_any-IsPermutation}
@@ -89,11 +89,11 @@ absent xs slot place leads not = by (list_any (nat_eq slot) xs) refl
         absurd (not (rw there (at.1, at.2)))
 
 -- slots with their places are each there once
-pub placed_distinct : (first : ℕ) (xs ps : List ℕ) → ArePlaced first xs ps → IsDistinct nat_eq xs
+pub placed_distinct : (first : ℕ) (xs ps : List ℕ) → LeadToPlaces first xs ps → IsDistinct nat_eq xs
 placed_distinct first xs ps placed = distinct_from (λ s. get_or ps (s - first) 0) 0 xs (λ i within. (placed i within).2 ∙ omega arith)
 
 -- the slot that is taken from its place is gone, and no other
-pub taken_at : (first : ℕ) (xs ps : List ℕ) → ArePlaced first xs ps → (i x : ℕ) (ys : List ℕ) → i < length xs
+pub taken_at : (first : ℕ) (xs ps : List ℕ) → LeadToPlaces first xs ps → (i x : ℕ) (ys : List ℕ) → i < length xs
     → x ≡ get_or xs i x → ys ≡ swap_remove xs i x
     → (n : ℕ) → list_any (nat_eq n) ys ≡ cond (nat_eq (get_or xs i 0) n) false (list_any (nat_eq n) xs)
 taken_at first xs ps placed i x ys within is left n =

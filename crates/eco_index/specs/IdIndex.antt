@@ -108,7 +108,7 @@ has_own ks others p = has_one ks p && not (any_matches others p)
 -- the slots of a key
 abbrev pub slots_of : Slots → List ℕ
 slots_of (slots.One n) = n ∷ []
-slots_of (slots.Close s) = s.value
+slots_of (slots.Close s) = s.value.slots
 slots_of (slots.Many s) = s.value.keys
 
 -- the slot is one of them from now on, or is not; all others stay

@@ -1,9 +1,9 @@
 //! Slots that lie close together, with the place of each.
-ghost use Rattle.std.specs.Prelude.{◌≡◌, ◌+◌, ◌<◌, ◌≤◌, ◌&&◌, ◌++◌, ◌∷◌, ℕ, [], cond, false, nat_eq, length, slice_index};
-ghost use Rattle.std.specs.Prelude.{IsTrue, ◌↔◌, IfOk, OnOk, OnErr, IfSome, IfNone};
+ghost use Rattle.std.specs.Prelude.{◌≡◌, ◌+◌, ◌<◌, ◌≤◌, ◌&&◌, ◌++◌, ◌∷◌, ℕ, [], cond, true, false, nat_eq, length, slice_index};
+ghost use Rattle.std.specs.Prelude.{IsTrue, ◌↔◌, IfOk, OnOk, OnErr, IfSome, IfNone, MatchOption};
 ghost use Rattle.std.specs.List.{list_any, IsDistinct};
 ghost use Rattle.eco_index.specs.IdIndex.{TurnsSlot};
-ghost use Rattle.eco_index.specs.SlotList.{KeepsPlaces};
+ghost use Rattle.eco_index.specs.SlotList.{KeepsPlaces, lies_close};
 
 use crate::occupancy::Occupancy;
 use eco_ids::TableSlot;
@@ -18,7 +18,7 @@ const FEW_PLACES: usize = 64;
 
 /// Slots, each once, whose places are kept: so one that comes or goes is neither hashed nor searched for.
 ///
-/// A contract sees the list of the slots.
+/// A contract sees the list of the slots, and the one before which none of them lies.
 pub struct SlotList {
     first: TableSlot,
     slots: Vec<TableSlot>,
@@ -38,20 +38,19 @@ impl Drop for SlotList {
 }
 
 impl Model for SlotList {
-    ghost use Rattle.std.specs.Prelude.{List, ℕ};
-    ghost use Rattle.eco_index.specs.SlotList.{ArePlaced};
+    ghost use Rattle.eco_index.specs.SlotList.{SlotListModel, LeadToPlaces};
 
-    ghost Value = { List ℕ };
+    ghost Value = { SlotListModel };
 
-    ghost view = { λ l. l.slots.items };
+    ghost view = { λ l. record { first = l.first; slots = l.slots.items } };
 
-    ghost invariant = { λ l. ArePlaced l.first l.slots.items l.places.items };
+    ghost invariant = { λ l. LeadToPlaces l.first l.slots.items l.places.items };
 }
 
 impl SlotList {
     /// No slot, and none comes that lies before this one.
     pub fn new(alloc: Global, first: TableSlot) -> SlotList
-        ensures { result ≡ [] }
+        ensures { result ≡ record { first = first; slots = [] } }
     {
         SlotList {
             first,
@@ -63,8 +62,8 @@ impl SlotList {
     /// The slots, each once.
     #[inline]
     pub fn as_slice(&self) -> &[TableSlot]
-        ensures slots { result.now ≡ self.now }
-        ensures distinct { IsDistinct nat_eq self.now }
+        ensures slots { result.now ≡ self.now.slots }
+        ensures distinct { IsDistinct nat_eq self.now.slots }
     {
         self.slots.as_slice()
     }
@@ -72,9 +71,9 @@ impl SlotList {
     /// Where the slot stands, if it is one of them.
     #[inline]
     pub fn place(&self, slot: TableSlot) -> Option<usize>
-        ensures within { IfSome result (λ i. i < length self.now) }
-        ensures there { IfSome result (λ i. slice_index self.now i ≡ slot) }
-        ensures none { IfNone result (list_any (nat_eq slot) self.now ≡ false) }
+        ensures within { IfSome result (λ i. i < length self.now.slots) }
+        ensures there { IfSome result (λ i. slice_index self.now.slots i ≡ slot) }
+        ensures none { IfNone result (list_any (nat_eq slot) self.now.slots ≡ false) }
     {
         let place = self.noted(slot);
         if self.has_at(place, slot) {
@@ -87,7 +86,8 @@ impl SlotList {
     // Where the slot stands. Of one that is not there it says nothing.
     #[inline]
     fn noted(&self, slot: TableSlot) -> usize
-        ensures { (i : ℕ) → i < length self.now → slice_index self.now i ≡ slot → result ≡ i }
+        ensures { (i : ℕ) → i < length self.now.slots → slice_index self.now.slots i ≡ slot
+            → result ≡ i }
     {
         if slot < self.first {
             return 0;
@@ -103,7 +103,8 @@ impl SlotList {
     // Whether the slot stands at this place.
     #[inline]
     fn has_at(&self, place: usize, slot: TableSlot) -> bool
-        ensures { IsTrue result ↔ ((place < length self.now) × (slice_index self.now place ≡ slot)) }
+        ensures { IsTrue result
+            ↔ ((place < length self.now.slots) × (slice_index self.now.slots place ≡ slot)) }
     {
         place < self.slots.len() && self.slots[place] == slot
     }
@@ -112,25 +113,30 @@ impl SlotList {
     /// is refused, and changes nothing.
     #[inline]
     pub fn offer(&mut self, slot: TableSlot) -> Result<bool, AllocError>
-        requires { list_any (nat_eq slot) self.old ≡ false }
-        ensures ok { IfOk result (λ came. self.new ≡ cond came (self.old ++ slot ∷ []) self.old) }
+        requires { list_any (nat_eq slot) self.old.slots ≡ false }
+        ensures close { IfOk result (λ came. came
+            ≡ lies_close self.old.first slot (length self.old.slots)) }
+        ensures ok { IfOk result (λ came. self.new.slots
+            ≡ cond came (self.old.slots ++ slot ∷ []) self.old.slots) }
+        ensures first { self.new.first ≡ self.old.first }
         ensures err { OnErr result (self.new ≡ self.old) }
     {
         let place = self.slots.len();
-        let Some(reach) = reach(self.first, slot, place) else {
+        let Some(away) = way_to(self.first, slot, place) else {
             return Ok(false);
         };
-        cover(&mut self.places, reach)?;
+        cover(&mut self.places, away)?;
         self.slots.push(slot)?;
-        self.places[reach - 1] = place;
+        self.places[away] = place;
         Ok(true)
     }
 
     /// Takes the slot from the others, if it is one of them. It takes no memory.
     pub fn take(&mut self, slot: TableSlot)
-        ensures taken { TurnsSlot false self.old self.new slot }
-        ensures fewer { length self.old ≤ length self.new + 1 }
-        ensures same { list_any (nat_eq slot) self.old ≡ false → self.new ≡ self.old }
+        ensures taken { TurnsSlot false self.old.slots self.new.slots slot }
+        ensures fewer { length self.old.slots ≤ length self.new.slots + 1 }
+        ensures same { list_any (nat_eq slot) self.old.slots ≡ false → self.new ≡ self.old }
+        ensures first { self.new.first ≡ self.old.first }
     {
         if let Some(place) = self.place(slot) {
             self.take_at(place);
@@ -139,10 +145,13 @@ impl SlotList {
 
     // Takes the slot at a place from the others. The last one comes in its place.
     fn take_at(&mut self, place: usize)
-        requires { place < length self.old }
-        ensures taken { TurnsSlot false self.old self.new (slice_index self.old place) }
-        ensures before { (i : ℕ) → i < place → slice_index self.new i ≡ slice_index self.old i }
-        ensures fewer { length self.new + 1 ≡ length self.old }
+        requires { place < length self.old.slots }
+        ensures taken { TurnsSlot false self.old.slots self.new.slots
+            (slice_index self.old.slots place) }
+        ensures before { (i : ℕ) → i < place
+            → slice_index self.new.slots i ≡ slice_index self.old.slots i }
+        ensures fewer { length self.new.slots + 1 ≡ length self.old.slots }
+        ensures first { self.new.first ≡ self.old.first }
     {
         self.slots.swap_remove(place);
         if place < self.slots.len() {
@@ -153,8 +162,9 @@ impl SlotList {
 
     /// The slots without a table go. It takes no memory.
     pub fn keep_there<T: Occupancy>(&mut self, tables: &T)
-        ensures { (n : ℕ) → list_any (nat_eq n) self.new
-            ≡ (list_any (nat_eq n) self.old && T.has_table tables.now n) }
+        ensures left { (n : ℕ) → list_any (nat_eq n) self.new.slots
+            ≡ (list_any (nat_eq n) self.old.slots && T.has_table tables.now n) }
+        ensures first { self.new.first ≡ self.old.first }
     {
         let mut place = 0;
         while place < self.slots.len() {
@@ -167,27 +177,27 @@ impl SlotList {
     }
 }
 
-// How many places are kept from the first slot on up to this one, if so many may be kept of that number of slots.
+// How far the slot lies from the first, if it lies so close that it may come to so many others.
 #[inline]
-fn reach(first: TableSlot, slot: TableSlot, count: usize) -> Option<usize>
-    ensures is { IfSome result (λ reach. slot + 1 ≡ first + reach) }
-    ensures above { IfSome result (λ reach. 0 < reach) }
+fn way_to(first: TableSlot, slot: TableSlot, count: usize) -> Option<usize>
+    ensures { MatchOption result (lies_close first slot count ≡ false)
+        (λ away. (lies_close first slot count ≡ true) × (slot ≡ first + away)) }
 {
-    let reach = slot.checked_sub(first)?.checked_add(1)?;
-    if reach <= FEW_PLACES || reach / SPREAD <= count {
-        Some(reach)
+    let away = slot.checked_sub(first)?;
+    if away < FEW_PLACES || away / SPREAD <= count {
+        Some(away)
     } else {
         None
     }
 }
 
-// So many places, of which those that were there stay.
+// Places up to this one, of which those that were there stay.
 #[inline]
-fn cover(places: &mut Vec<usize>, len: usize) -> Result<(), AllocError>
+fn cover(places: &mut Vec<usize>, last: usize) -> Result<(), AllocError>
     ensures kept { KeepsPlaces places.old.items places.new.items }
-    ensures enough { OnOk result (len ≤ length places.new.items) }
+    ensures enough { OnOk result (last < length places.new.items) }
 {
-    while places.len() < len {
+    while places.len() <= last {
         places.push(0)?;
     }
     Ok(())

@@ -158,7 +158,7 @@ fn both(alloc: Global, one: TableSlot, other: TableSlot) -> Result<Slots, AllocE
 #[cold]
 #[inline(never)]
 fn widened(alloc: Global, list: &SlotList, slot: TableSlot) -> Result<Slots, AllocError>
-    ensures turned { IfOk result (λ slots. TurnsSlot true list.now (slots_of slots) slot) }
+    ensures turned { IfOk result (λ slots. TurnsSlot true list.now.slots (slots_of slots) slot) }
     ensures full { IfOk result (λ slots. is_empty (Some slots) ≡ false) }
 {
     let mut slots = set_of(alloc, list.as_slice())?;

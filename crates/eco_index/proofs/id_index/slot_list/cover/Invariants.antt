@@ -1,4 +1,4 @@
-use Rattle.eco_index.proofs.Common.{length, ◌-◌}
+use Rattle.eco_index.proofs.Common.{length, suc, ◌-◌}
 use Rattle.eco_index.specs.SlotList.{KeepsPlaces}
 use Rattle.eco_index.proofs.id_index.slot_list.cover.Given as goal
 
@@ -6,4 +6,4 @@ abbrev pub invariant-loop-places : goal.invariant-loop-places
 invariant-loop-places l = KeepsPlaces l.fn.places.items l.places.items
 
 abbrev pub decreases-loop-places : goal.decreases-loop-places
-decreases-loop-places l = l.len - length l.places.items
+decreases-loop-places l = suc l.last - length l.places.items

@@ -3,8 +3,9 @@ use Rattle.eco_index.proofs.id_index.slot_list.SlotList.keep_there.Given as goal
 
 abbrev pub invariant-loop-place : goal.invariant-loop-place
 invariant-loop-place g l =
-    ((n : ℕ) → g.T.Occupancy.has_table l.tables n ≡ true → list_any (nat_eq n) l.self ≡ list_any (nat_eq n) l.fn.self)
-    × ((i : ℕ) → i < l.place → g.T.Occupancy.has_table l.tables (get_or l.self i 0) ≡ true)
+    ((n : ℕ) → g.T.Occupancy.has_table l.tables n ≡ true → list_any (nat_eq n) l.self.slots ≡ list_any (nat_eq n) l.fn.self.slots)
+    × ((i : ℕ) → i < l.place → g.T.Occupancy.has_table l.tables (get_or l.self.slots i 0) ≡ true)
+    × (l.self.first ≡ l.fn.self.first)
 
 abbrev pub decreases-loop-place : goal.decreases-loop-place
-decreases-loop-place g l = length l.self - l.place
+decreases-loop-place g l = length l.self.slots - l.place

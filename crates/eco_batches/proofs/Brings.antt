@@ -4,7 +4,7 @@ use Rattle.eco_batches.proofs.Common.{◌∷◌, ◌++◌, map, flat_map, refl, 
 use Rattle.eco_batches.proofs.Common.{get_or, length, take, IsTrue, true≢false, arith, Option, Some, None, option_map, option_to_list, slice_get}
 use Rattle.eco_batches.proofs.Common.{AllByRecursion, list_any, map-append, take_more, same_Some, none-some, neither, Entity, Id, Part, Is, Each, Any, Pattern}
 use Rattle.eco_batches.proofs.Common.{One, Two, WorldState, Record, has, record_of, id_eq_is, id_eq_itself, entity_eq_is, entity_eq_itself, pattern_head}
-use Rattle.eco_batches.proofs.Common.{pattern_with_head, BringsPattern, InClosedPatterns, some_left, some_right, AreClosed, HasKnownTarget, brought, brought_by}
+use Rattle.eco_batches.proofs.Common.{BringsNothing, pattern_with_head, BringsPattern, InClosedPatterns, some_left, some_right, AreClosed, HasKnownTarget, brought, brought_by}
 use Rattle.eco_batches.proofs.Common.{ids_in, pattern_key, keys_by, known_keys, key_pattern, targets_below, Key}
 use Rattle.std.proofs.lemmas.Bool.{cases_eq}
 use Rattle.std.proofs.lemmas.Grind.{flat_map-append}
@@ -88,6 +88,18 @@ pub nothing_by : (w : WorldState) (p : Pattern) (ids : List Id) → list_any is_
     → ((q : Pattern) → BringsPattern w p q ↔ Member q (brought p ids))
     → (q : Pattern) → BringsPattern w p q → ⊥
 nothing_by w p ids none exact q b = subst (Member q) (none_brought p ids none) ((exact q).0 b)
+
+-- one of whose head an id is a pair of With brings something
+pub brings_by : (w : WorldState) (p : Pattern) (ids : List Id) → list_any is_with ids ≡ true
+    → ((q : Pattern) → BringsPattern w p q ↔ Member q (brought p ids)) → BringsNothing w p → ⊥
+brings_by w p ids some exact none = found (passing is_with ids some)
+  where
+    found : (i : Id) × Member i ids × (is_with i ≡ true) → ⊥
+    found (id.One e, m, is) = true≢false (sym is)
+    found (id.Two r x, m, is) =
+        let q = pattern_with_head p x in
+        none q ((exact q).1 (in_flat (λ i. option_to_list (brought_by p i)) (id.Two r x) q ids m
+        (subst (λ b. Member q (option_to_list (if b then Some q else None))) (sym is) (inl refl))))
 
 -- one more id is looked at
 pub brought_more : (ids : List Id) (k : ℕ) (d : Id) (start now : List Key) (o : Option Pattern) (p : Pattern) → k < length ids
@@ -221,16 +233,13 @@ module _ (w : WorldState) where
       here {q = q} (root m) = root ((among_is_member roots (pattern_key q)).1 (subst (Member (pattern_key q)) (sym made) (in_map pattern_key q ps m)))
       here (next c b) = next (here c) b
 
-  abbrev pub BringsNothing : Pattern → Type 0
-  BringsNothing p = (q : Pattern) → BringsPattern w p q → ⊥
-
   -- patterns that bring nothing are closed
-  pub closed_alone : (ps : List Pattern) → AllByRecursion BringsNothing ps → AreClosed w ps ps
+  pub closed_alone : (ps : List Pattern) → AllByRecursion (BringsNothing w) ps → AreClosed w ps ps
   closed_alone ps none p = (λ m. root m, λ c. here c)
     where
-      at : (zs : List Pattern) → AllByRecursion BringsNothing zs → (q : Pattern) → Member q zs → BringsNothing q
+      at : (zs : List Pattern) → AllByRecursion (BringsNothing w) zs → (q : Pattern) → Member q zs → BringsNothing w q
       at [] none q m = absurd m
-      at (z ∷ zs) none q (inl e) = subst BringsNothing e none.0
+      at (z ∷ zs) none q (inl e) = subst (BringsNothing w) e none.0
       at (z ∷ zs) none q (inr m) = at zs none.1 q m
 
       here : {q : Pattern} → InClosedPatterns w ps q → Member q ps

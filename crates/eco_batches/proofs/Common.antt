@@ -14,12 +14,12 @@ pub use Rattle.std.proofs.lemmas.Result.{IfOk-weaker}
 pub use Rattle.std.specs.Bool.{Decides}
 pub use Rattle.std.specs.List.{AllByRecursion, AllZip, IsDistinct, list_any}
 pub use Rattle.std.specs.Ordering.{eq_by_cmp, ordering_then}
-pub use Rattle.eco_batches.specs.Brought.{AreClosed, HasKnownTarget, brought, brought_by, ids_in, key_pattern, keys_by, known_keys, pattern_key, same_pattern}
-pub use Rattle.eco_batches.specs.Brought.{targets_below, unrepeated}
+pub use Rattle.eco_batches.specs.Brought.{AreClosed, BringsNothing, HasKnownTarget, brought, brought_by, ids_in, key_pattern, keys_by, known_keys, pattern_key}
+pub use Rattle.eco_batches.specs.Brought.{same_pattern, targets_below, unrepeated}
 pub use Rattle.eco_batches.specs.Keys.{IsNoted, part_entity}
 pub use Rattle.eco_batches.specs.OutlineModels.{IsWithin, OutlineModel, outline_of}
 pub use Rattle.eco_batches.specs.Outlines.{ArePlacedBatches, IsOutline, clash_at, clash_of, closed_in, cut_of, disturbs, kills_in, kills_too, late_at}
-pub use Rattle.eco_batches.specs.Outlines.{no_system, reads_in, system_at, system_in, system_of, systems_of, traits_in}
+pub use Rattle.eco_batches.specs.Outlines.{IsKnown, ListsFew, no_system, reads_in, system_at, system_in, system_of, systems_of, traits_in}
 pub use Rattle.eco_batches.specs.Written.{HasAllPairs, HasPair, HasPairs, HasSingle, HasWild, IsNothing, overlaps, overlaps_pairs}
 pub use Rattle.eco_batches.specs.declared.declaration.Declared.{Declared}
 pub use Rattle.eco_batches.specs.declared.key.Key.{Key}

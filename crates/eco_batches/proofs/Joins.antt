@@ -5,10 +5,14 @@ use Rattle.eco_batches.proofs.Common.{IsTrue, None, Some, arith, take_all, trait
 use Rattle.eco_batches.proofs.Common.{IsDistinct, list_any, drop_all, drop_more, map-append, map_push, take_more, list_any-append, Pattern, pattern_overlaps}
 use Rattle.eco_batches.proofs.Common.{WorldState, has_any, batched, ListsClosed, writes_trait, same_pattern, OutlineModel, IsOutline, clash_at, clash_of}
 use Rattle.eco_batches.proofs.Common.{closed_in, disturbs, kills_in, kills_too, late_at, reads_in, overlaps, Declared, or-false, or_assoc}
+use Rattle.eco_batches.proofs.Common.{◌↔◌, IsKnown, ListsFew, zero, suc, widened}
+use Rattle.eco_batches.proofs.Brings.{closed_alone}
+use Rattle.eco_batches.proofs.Once.{lists_closed, once_is_distinct}
+use Rattle.eco_ids.proofs.Ascending.{both, first, second}
 use Rattle.eco_ids.specs.declared.edition.Edition.{Edition}
 use Rattle.eco_ids.proofs.Further.{zip_push}
 use Rattle.std.proofs.lemmas.Option.{slice_get-get_or}
-use Rattle.std.specs.Prelude.{IfSome}
+use Rattle.std.specs.Prelude.{IfSome, is_some}
 use Rattle.std.specs.Bool.{beq}
 use Rattle.eco_batches.specs.Open.{IsFresh, IsOpen, JoinsNext, JoinsOpen, stands_apart}
 use Rattle.eco_batches.specs.declared.batch.Batch.{Batch}
@@ -180,18 +184,59 @@ beq_same true false h = absurd (true≢false (sym h))
 beq_same false true h = absurd (true≢false (sym h))
 beq_same false false h = refl
 
--- an outline that was worked out before is one of the system still
-pub known_by : (w : WorldState) (d : Declared) (edition : Edition) → edition ≡ w.edition → (o : Option OutlineModel) (closed : List Pattern)
-    → closed ≡ closed_in o → ListsClosed w d.writes.now closed → IsDistinct same_pattern closed → (traits some kills : Bool)
-    → traits ≡ traits_in o → some ≡ list_any (writes_trait edition) closed → IsTrue (beq traits some)
-    → kills ≡ kills_in o → IsTrue (beq kills d.kills) → IfSome o (IsOutline w d)
-known_by w d edition same_edition None closed is listed once traits some kills own found same killing same_kills = tt
-known_by w d edition same_edition (Some o) closed is listed once traits some kills own found same killing same_kills = record {
-  kills = sym killing ∙ beq_same kills d.kills same_kills;
-  closed = subst (ListsClosed w d.writes.now) is listed;
-  once = subst (IsDistinct same_pattern) is once;
-  traits = sym own ∙ beq_same traits some same ∙ found ∙ λ i. list_any (writes_trait (same_edition i)) (is i);
-}
+same_beq : (a b : Bool) → a ≡ b → IsTrue (beq a b)
+same_beq true true e = refl
+same_beq true false e = sym e
+same_beq false true e = e
+same_beq false false e = refl
+
+-- an outline that was worked out before is one of the system still, where so much is the same
+pub known_by : (w : WorldState) (d : Declared) (edition : Edition) → edition ≡ w.edition → (o : Option OutlineModel) → is_some o ≡ true
+    → (closed : List Pattern) → closed ≡ closed_in o → ListsFew w d.writes.now closed → (traits some kills : Bool)
+    → traits ≡ traits_in o → some ≡ list_any (writes_trait edition) closed → kills ≡ kills_in o
+    → IsTrue (beq traits some && beq kills d.kills) ↔ IfSome o (IsKnown w d)
+known_by w d edition same_edition None there closed is listed traits some kills own found killing = absurd (true≢false (sym there))
+known_by w d edition same_edition (Some o) there closed is listed traits some kills own found killing =
+    let writes : some ≡ list_any (writes_trait w.edition) o.closed = found ∙ λ i. list_any (writes_trait (same_edition i)) (is i) in (
+      λ h. record {
+        kills = sym killing ∙ beq_same kills d.kills (second (beq traits some) _ h);
+        closed = subst (ListsFew w d.writes.now) is listed;
+        traits = sym own ∙ beq_same traits some (first (beq traits some) _ h) ∙ writes;
+      },
+      λ k. both (beq traits some) _ (same_beq traits some (own ∙ k.traits ∙ sym writes)) (same_beq kills d.kills (killing ∙ k.kills)),
+    )
+
+-- an outline is not known whose closed writes are not told
+pub unknown_by : (w : WorldState) (d : Declared) (o : Option OutlineModel) → is_some o ≡ true → (closed : List Pattern) → closed ≡ closed_in o
+    → (ListsFew w d.writes.now closed → ⊥) → IfSome o (IsKnown w d) → ⊥
+unknown_by w d None there closed is none known = true≢false (sym there)
+unknown_by w d (Some o) there closed is none known = none (subst (ListsFew w d.writes.now) (sym is) known.closed)
+
+pub there_is : (os : List OutlineModel) (k : ℕ) → k < length os → is_some (slice_get os k) ≡ true
+there_is os k there = ap is_some (slice_get-get_or os k (record { closed = []; writes_traits = false; kills = false }) there)
+
+-- what is known is right
+pub known_outlines : (w : WorldState) (ds : List Declared) (os : List OutlineModel) → AllZip (IsKnown w) ds os → AllZip (IsOutline w) ds os
+known_outlines w [] [] known = tt
+known_outlines w [] (o ∷ os) known = absurd known
+known_outlines w (d ∷ ds) [] known = absurd known
+known_outlines w (d ∷ ds) (o ∷ os) known = (
+  record {
+    kills = known.0.kills;
+    closed = lists_closed w d.writes.now d.writes.now o.closed (closed_alone w d.writes.now known.0.closed.alone) known.0.closed.made;
+    once = once_is_distinct o.closed (map (widened w) d.writes.now) known.0.closed.made;
+    traits = known.0.traits;
+  },
+  known_outlines w ds os known.1,
+)
+
+-- each of the outlines is known where all are
+pub known_each : (R : Declared → OutlineModel → Type 0) (ds : List Declared) (os : List OutlineModel) (k : ℕ) (d : Declared) → k < length ds
+    → AllZip R ds os → IfSome (slice_get os k) (R (get_or ds k d))
+known_each R [] os k d below all = absurd (omega arith)
+known_each R (x ∷ ds) [] k d below all = absurd all
+known_each R (x ∷ ds) (o ∷ os) zero d below all = all.0
+known_each R (x ∷ ds) (o ∷ os) (suc k) d below all = known_each R ds os k d (omega arith) all.1
 
 -- one outline more is known
 pub known_more : (R : Declared → OutlineModel → Type 0) (ds : List Declared) (os : List OutlineModel) (k : ℕ) (d : Declared) → k < length ds

@@ -1,6 +1,7 @@
 -- Members of lists.
 use Rattle.eco_batches.proofs.Common.{◌≡◌, Bool, ◌⊎◌, inl, inr, List, [], ◌∷◌, ◌++◌, map, flat_map, refl, sym, ap, subst, IsTrue}
 use Rattle.eco_batches.proofs.Common.{true≢false, list_any, or_left, or_parts, or_right, SomeOf, some_left, some_right}
+use Rattle.eco_batches.proofs.Common.{ℕ, zero, suc, ◌<◌, arith, length, get_or, AllByRecursion}
 
 abbrev pub Member : {A : Type 0} → A → List A → Type 0
 Member x xs = SomeOf (λ y. y ≡ x) xs
@@ -29,6 +30,12 @@ module _ {A : Type 0} where
   passes test [] h t = absurd h
   passes test (y ∷ ys) (inl e) t = or_left (test y) (list_any test ys) (subst (λ z. IsTrue (test z)) (sym e) t)
   passes test (y ∷ ys) (inr h) t = or_right (test y) (list_any test ys) (passes test ys h t)
+
+-- what holds of all holds of each
+pub all_at : {A : Type 0} (P : A → Type 0) (xs : List A) (k : ℕ) (d : A) → k < length xs → AllByRecursion P xs → P (get_or xs k d)
+all_at P [] k d l all = absurd (omega arith)
+all_at P (x ∷ xs) zero d l all = all.0
+all_at P (x ∷ xs) (suc k) d l all = all_at P xs k d (omega arith) all.1
 
 module _ {A B : Type 0} where
   pub in_map : (f : A → B) (x : A) (xs : List A) → Member x xs → Member (f x) (map f xs)

@@ -2,7 +2,9 @@
 use Rattle.eco_batches.proofs.Common.{◌≡◌, Bool, true, false, ◌||◌, List, [], ◌∷◌, ◌++◌, map, refl, sym, ap, ◌∙◌, subst, IsTrue}
 use Rattle.eco_batches.proofs.Common.{true≢false, if◌then◌else◌, ℕ, ◌+◌, ◌<◌, get_or, length, take, map_push, take_more, AllByRecursion}
 use Rattle.eco_batches.proofs.Common.{list_any, list_any-append, insert_all, insert_key, neither, off, Pattern, WorldState, ListsClosed, widened, all_append}
-use Rattle.eco_batches.proofs.Common.{AreClosed, unrepeated, key_pattern, same_pattern, Key, or-false, or_assoc}
+use Rattle.eco_batches.proofs.Common.{AreClosed, unrepeated, key_pattern, same_pattern, Key, or-false, or_assoc, append-nil, append_assoc}
+use Rattle.eco_batches.proofs.Common.{drop, map-append}
+use Rattle.std.proofs.lemmas.List.{take-append-drop}
 use Rattle.std.specs.List.{IsDistinct}
 use Rattle.std.proofs.lemmas.Map.Keys.{IsDistinct-cons, IsDistinct-head, IsDistinct-tail}
 use Rattle.eco_batches.proofs.Members.{from_map, in_map, passes, passing}
@@ -35,6 +37,21 @@ all_more test ks (x ∷ xs) =
     all_more test (insert_key same_pattern ks x) xs
     ∙ ap (λ c. c || list_any test xs) (one_more test ks x)
     ∙ or_assoc (list_any test ks) (test x) (list_any test xs)
+
+-- ---- what is put in first stands first
+
+insert_all_append : (ks xs ys : List Pattern) → insert_all same_pattern ks (xs ++ ys) ≡ insert_all same_pattern (insert_all same_pattern ks xs) ys
+insert_all_append ks [] ys = refl
+insert_all_append ks (x ∷ xs) ys = insert_all_append (insert_key same_pattern ks x) xs ys
+
+starts : (ks xs : List Pattern) → (rest : List Pattern) × (insert_all same_pattern ks xs ≡ ks ++ rest)
+starts ks [] = ([], sym (append-nil ks))
+starts ks (x ∷ xs) = by (λ js. starts js xs) (list_any (same_pattern x) ks)
+  where
+    by : ((js : List Pattern) → (rest : List Pattern) × (insert_all same_pattern js xs ≡ js ++ rest)) → (b : Bool)
+        → (rest : List Pattern) × (insert_all same_pattern (if b then ks else ks ++ x ∷ []) xs ≡ ks ++ rest)
+    by later true = later ks
+    by later false = let more = later (ks ++ x ∷ []) in (x ∷ more.0, more.1 ∙ append_assoc ks (x ∷ []) more.0)
 
 -- the closure, widened, lists the closed writes
 pub lists_closed : (w : WorldState) (writes members listed : List Pattern) → AreClosed w writes members → listed ≡ unrepeated (map (widened w) members)
@@ -105,6 +122,20 @@ module _ (f : Pattern → Pattern) where
       ∙ sym (insert_all_push same_pattern [] (map f (map key_pattern (take k ks))) (f (get_or ks k d).pattern))
       ∙ ap unrepeated (sym (ap (λ l. map f (map key_pattern l)) (take_more ks k d there)
       ∙ ap (map f) (map_push key_pattern (take k ks) (get_or ks k d)) ∙ map_push f (map key_pattern (take k ks)) (get_or ks k d).pattern))
+
+-- what is widened first stands first
+pub widened_first : (f : Pattern → Pattern) (ps : List Pattern) (k : ℕ) (d : Pattern) (closed old : List Pattern) (y : Pattern) → k < length ps
+    → old ≡ unrepeated (map f (take k ps)) → y ≡ f (get_or ps k d) → closed ≡ unrepeated (map f ps)
+    → (rest : List Pattern) × (closed ≡ insert_key same_pattern old y ++ rest)
+widened_first f ps k d closed old y there before is made =
+    let front = map f (take (k + 1) ps) in
+    let back = map f (drop (k + 1) ps) in
+    let more = starts (unrepeated front) back in (
+      more.0,
+      made ∙ ap (λ l. unrepeated (map f l)) (sym (take-append-drop (k + 1) ps))
+          ∙ ap unrepeated (map-append f (take (k + 1) ps) (drop (k + 1) ps)) ∙ insert_all_append [] front back ∙ more.1
+          ∙ ap (λ l. l ++ more.0) (sym (once_more f ps k d [] old (insert_key same_pattern old y) y there before is refl)),
+    )
 
 none_distinct : IsDistinct same_pattern []
 unfolding IsDistinct

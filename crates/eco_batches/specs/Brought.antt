@@ -16,7 +16,7 @@ use Rattle.eco_ids.specs.Order.{entity_eq}
 use Rattle.eco_ids.specs.World.{WorldState, Record}
 use Rattle.eco_query.specs.Queries.{IsPatternPart}
 use Rattle.eco_systems.specs.Closing.{pattern_with_head}
-use Rattle.eco_systems.specs.Writes.{InClosedPatterns}
+use Rattle.eco_systems.specs.Writes.{BringsPattern, InClosedPatterns}
 use Rattle.eco_batches.specs.declared.key.Key.{Key}
 
 abbrev pub pattern_key : Pattern → Key
@@ -36,6 +36,10 @@ unrepeated ps = insert_all same_pattern [] ps
 -- the members are the patterns closed
 abbrev pub AreClosed : WorldState → List Pattern → List Pattern → Type 0
 AreClosed w patterns members = (p : Pattern) → SomeOf (λ q. q ≡ p) members ↔ InClosedPatterns w patterns p
+
+-- it brings no pattern, nor itself
+abbrev pub BringsNothing : WorldState → Pattern → Type 0
+BringsNothing w p = (q : Pattern) → BringsPattern w p q → ⊥
 
 -- what a pattern brings by an id of its head
 abbrev pub brought_by : Pattern → Id → Option Pattern

@@ -1,6 +1,6 @@
 -- What is worked out of each system once, and when two clash.
-use Rattle.std.specs.Prelude.{◌≡◌, ℕ, Bool, false, ◌||◌, List, [], ◌∷◌, ◌++◌, map, slice_get, Option, Some, None}
-use Rattle.std.specs.List.{IsDistinct, list_any}
+use Rattle.std.specs.Prelude.{◌≡◌, ◌≤◌, ℕ, Bool, false, ◌||◌, List, [], ◌∷◌, ◌++◌, length, map, slice_get, Option, Some, None}
+use Rattle.std.specs.List.{AllByRecursion, IsDistinct, list_any}
 use Rattle.eco_ids.specs.declared.pattern.Pattern.{Pattern}
 use Rattle.eco_ids.specs.Matching.{pattern_overlaps}
 use Rattle.eco_ids.specs.World.{WorldState}
@@ -9,9 +9,9 @@ use Rattle.eco_systems.specs.Closing.{ListsClosed}
 use Rattle.eco_systems.specs.Joining.{batched}
 use Rattle.eco_systems.specs.Phases.{in_order, order_of}
 use Rattle.eco_systems.specs.Systems.{SystemModel}
-use Rattle.eco_systems.specs.Writes.{writes_trait}
+use Rattle.eco_systems.specs.Writes.{widened, writes_trait}
 use Rattle.eco_systems.specs.declared.phase.Phase.TheVariants.{OnLoad}
-use Rattle.eco_batches.specs.Brought.{same_pattern}
+use Rattle.eco_batches.specs.Brought.{BringsNothing, same_pattern, unrepeated}
 use Rattle.eco_batches.specs.declared.declaration.Declared.{Declared}
 use Rattle.eco_batches.specs.OutlineModels.{OutlineModel}
 
@@ -52,6 +52,19 @@ pub record IsOutline (w : WorldState) (d : Declared) (o : OutlineModel) : Type 0
   pub kills : o.kills ≡ d.kills
   pub closed : ListsClosed w d.writes.now o.closed
   pub once : IsDistinct same_pattern o.closed
+  pub traits : o.writes_traits ≡ list_any (writes_trait w.edition) o.closed
+
+-- closed writes that are told without a list of what is brought: those of at most eight writes, none of which brings others; they
+-- are the writes, widened, each once
+pub record ListsFew (w : WorldState) (writes closed : List Pattern) : Type 0 where
+  pub few : length writes ≤ 8
+  pub alone : AllByRecursion (BringsNothing w) writes
+  pub made : closed ≡ unrepeated (map (widened w) writes)
+
+-- an outline is that of a system whose closed writes are told so
+pub record IsKnown (w : WorldState) (d : Declared) (o : OutlineModel) : Type 0 where
+  pub kills : o.kills ≡ d.kills
+  pub closed : ListsFew w d.writes.now o.closed
   pub traits : o.writes_traits ≡ list_any (writes_trait w.edition) o.closed
 
 -- the closed writes of a system

@@ -1,11 +1,12 @@
 //! What patterns bring with them.
 ghost use Rattle.std.specs.Prelude.{◌≡◌, ◌++◌, ◌↔◌, flat_map, map, option_to_list, IfOk, IsFalse, IsTrue, OnOk};
+ghost use Rattle.std.specs.List.{AllByRecursion};
 ghost use Rattle.eco_ids.specs.declared.pattern.Pattern.{Pattern as PatternData};
 ghost use Rattle.eco_ids.specs.Least.{SomeOf};
 ghost use Rattle.eco_systems.specs.Closing.{pattern_head, pattern_with_head};
 ghost use Rattle.eco_systems.specs.Writes.{BringsPattern};
 ghost use Rattle.eco_batches.specs.Brought as spec;
-ghost use Rattle.eco_batches.specs.Brought.{AreClosed, HasKnownTarget, brought_by, pattern_key, known_keys, key_pattern};
+ghost use Rattle.eco_batches.specs.Brought.{AreClosed, BringsNothing, HasKnownTarget, brought_by, pattern_key, known_keys, key_pattern};
 ghost use Rattle.eco_batches.specs.KeyLaws.{same_keys};
 
 use crate::key::Key;
@@ -109,9 +110,9 @@ fn append_brought(pattern: Pattern, ids: &[Id], found: &mut Vec<Key>) -> Result<
     Ok(())
 }
 
-/// Whether none of the patterns brings anything: few do.
+/// Whether none of the patterns brings anything, be it itself: few do.
 pub(crate) fn bring_nothing<H: Holdings>(holdings: &H, patterns: &[Pattern]) -> bool
-    ensures { IsTrue result → AreClosed (H.world holdings.now) patterns.now patterns.now }
+    ensures { IsTrue result ↔ AllByRecursion (BringsNothing (H.world holdings.now)) patterns.now }
 {
     for pattern in patterns {
         if any_with(ids_of_head(holdings, *pattern)) {

@@ -1,11 +1,13 @@
 //! The closed writes of a system.
-ghost use Rattle.std.specs.Prelude.{◌≡◌, ◌++◌, ◌≤◌, length, map, take, IfOk, IfSome, IsTrue, OnOk};
+ghost use Rattle.std.specs.Prelude.{◌≡◌, ◌↔◌, ◌++◌, ◌≤◌, List, length, map, take, IfNone, IfOk, IfSome, IsTrue, OnOk};
 ghost use Rattle.std.specs.List.{IsDistinct, list_any};
 ghost use Rattle.indexmap.specs.IndexSet.{insert_all, insert_key};
+ghost use Rattle.eco_ids.specs.declared.pattern.Pattern.{Pattern as PatternData};
 ghost use Rattle.eco_ids.specs.World.{is_widened};
 ghost use Rattle.eco_systems.specs.Closing.{ListsClosed};
 ghost use Rattle.eco_systems.specs.Writes as writes;
 ghost use Rattle.eco_batches.specs.Brought.{pattern_key, unrepeated, key_pattern, same_pattern};
+ghost use Rattle.eco_batches.specs.Outlines.{ListsFew};
 
 use crate::brought::{bring_nothing, closure};
 use crate::key::Key;
@@ -76,8 +78,10 @@ fn add_few<H: Holdings>(
 // neither among these nor the next.
 fn found_with(closed: &[Pattern], found: usize, pattern: Pattern) -> Option<usize>
     requires { found ≤ length closed.now }
-    ensures { IfSome result (λ n. (n ≤ length closed.now)
+    ensures some { IfSome result (λ n. (n ≤ length closed.now)
         × (take n closed.now ≡ insert_key same_pattern (take found closed.now) pattern)) }
+    ensures none { IfNone result ((rest : List PatternData) → closed.now
+        ≡ insert_key same_pattern (take found closed.now) pattern ++ rest → ⊥) }
 {
     if stands_in(&closed[..found], pattern) {
         return Some(found);
@@ -91,7 +95,7 @@ fn found_with(closed: &[Pattern], found: usize, pattern: Pattern) -> Option<usiz
 // Whether a few patterns, widened, each once, are those closed as they stand.
 fn are_widened<H: Holdings>(holdings: &H, patterns: &[Pattern], closed: &[Pattern]) -> bool
     ensures { IsTrue result
-        → closed.now ≡ unrepeated (map (writes.widened (H.world holdings.now)) patterns.now) }
+        ↔ (closed.now ≡ unrepeated (map (writes.widened (H.world holdings.now)) patterns.now)) }
 {
     let mut found = 0;
     for pattern in patterns {
@@ -106,8 +110,7 @@ fn are_widened<H: Holdings>(holdings: &H, patterns: &[Pattern], closed: &[Patter
 /// Whether the list is known to be that of the closed writes of some patterns, as it was made before. It takes no memory, and
 /// mostly less time than to list them anew; that of patterns that bring others is not known.
 pub(crate) fn is_closed<H: Holdings>(holdings: &H, writes: &[Pattern], closed: &[Pattern]) -> bool
-    ensures closed { IsTrue result → ListsClosed (H.world holdings.now) writes.now closed.now }
-    ensures once { IsTrue result → IsDistinct same_pattern closed.now }
+    ensures { IsTrue result ↔ ListsFew (H.world holdings.now) writes.now closed.now }
 {
     if writes.len() > FEW {
         return false;

@@ -1,9 +1,9 @@
 //! What is worked out of each system once.
-ghost use Rattle.std.specs.Prelude.{◌≡◌, ◌∷◌, ◌++◌, [], IfOk, IfSome, IsTrue, OnOk, length, slice_get};
+ghost use Rattle.std.specs.Prelude.{◌≡◌, ◌<◌, ◌↔◌, ◌∷◌, ◌++◌, [], IfOk, IfSome, IsTrue, OnOk, length, slice_get};
 ghost use Rattle.std.specs.List.{AllZip, list_any};
 ghost use Rattle.eco_systems.specs.Writes as writes;
 ghost use Rattle.eco_batches.specs.Outlines as spec;
-ghost use Rattle.eco_batches.specs.Outlines.{IsOutline};
+ghost use Rattle.eco_batches.specs.Outlines.{IsKnown, IsOutline};
 
 use crate::closed::{is_closed, list_closed};
 use crate::declaration::Declared;
@@ -104,8 +104,9 @@ impl Outlines {
 
     // Whether the outline at a position is known to be that of a system.
     fn is_known<H: Holdings>(&self, at: usize, holdings: &H, system: &Declared) -> bool
+        requires { at < length self.now }
         ensures { IsTrue result
-            → IfSome (slice_get self.now at) (IsOutline (H.world holdings.now) system.now) }
+            ↔ IfSome (slice_get self.now at) (IsKnown (H.world holdings.now) system.now) }
     {
         let closed = self.closed(at);
         if !is_closed(holdings, system.writes, closed) {
@@ -118,7 +119,10 @@ impl Outlines {
     /// Whether they are known to be those of these systems, as they were worked out before. It takes no memory, and less time
     /// than to work them out.
     pub fn are_known<H: Holdings>(&self, holdings: &H, systems: &[Declared]) -> bool
-        ensures { IsTrue result → AllZip (IsOutline (H.world holdings.now)) systems.now self.now }
+        ensures outlines { IsTrue result
+            → AllZip (IsOutline (H.world holdings.now)) systems.now self.now }
+        ensures known { IsTrue result
+            ↔ AllZip (IsKnown (H.world holdings.now)) systems.now self.now }
     {
         if self.len() != systems.len() {
             return false;

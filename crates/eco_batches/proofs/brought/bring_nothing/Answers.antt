@@ -1,5 +1,6 @@
-use Rattle.eco_batches.proofs.Common.{subst, sym, true≢false, ◌∙◌, AllByRecursion, take_all, take_more, all_append}
-use Rattle.eco_batches.proofs.Brings.{BringsNothing, closed_alone, nothing_by}
+use Rattle.eco_batches.proofs.Common.{subst, sym, refl, true≢false, ◌∙◌, AllByRecursion, BringsNothing, take_all, take_more, all_append}
+use Rattle.eco_batches.proofs.Brings.{brings_by, nothing_by}
+use Rattle.eco_batches.proofs.Members.{all_at}
 use Rattle.eco_batches.proofs.brought.bring_nothing.Goals as goal
 
 pub loop-pattern-preserved : goal.loop-pattern-preserved
@@ -10,10 +11,17 @@ loop-pattern-preserved g c =
     (nothing_by w _ c.ids_of_head.result.now (sym c.any_with.ensures ∙ c.if-any_with.false) c.ids_of_head.ensures, tt))
 
 pub returns-then-any_with : goal.returns-then-any_with
-returns-then-any_with g c = λ t. absurd (true≢false (sym t))
+returns-then-any_with g c = (
+  λ t. absurd (true≢false (sym t)),
+  λ none. let w = g.H.Holdings.world c.args.holdings.now in
+      absurd (brings_by w _ c.ids_of_head.result.now (sym c.any_with.ensures ∙ c.if-any_with.true) c.ids_of_head.ensures
+      (all_at (BringsNothing w) c.args.patterns.now c.loop-pattern.pattern-index _ c.loop-pattern-test.true none)),
+)
 
 pub returns : goal.returns
-returns g c = λ t.
-    let w = g.H.Holdings.world c.args.holdings.now in
-    closed_alone w c.args.patterns.now
-    (subst (AllByRecursion (BringsNothing w)) (take_all c.loop-pattern.pattern-index c.args.patterns.now c.loop-pattern-test.false) c.loop-pattern.invariant)
+returns g c = (
+  λ t.
+      subst (AllByRecursion (BringsNothing (g.H.Holdings.world c.args.holdings.now)))
+      (take_all c.loop-pattern.pattern-index c.args.patterns.now c.loop-pattern-test.false) c.loop-pattern.invariant,
+  λ none. refl,
+)

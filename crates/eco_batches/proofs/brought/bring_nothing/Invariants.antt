@@ -1,5 +1,4 @@
-use Rattle.eco_batches.proofs.Common.{take, AllByRecursion}
-use Rattle.eco_batches.proofs.Brings.{BringsNothing}
+use Rattle.eco_batches.proofs.Common.{take, AllByRecursion, BringsNothing}
 use Rattle.eco_batches.proofs.brought.bring_nothing.Given as goal
 
 abbrev pub invariant-loop-pattern : goal.invariant-loop-pattern

@@ -1,4 +1,5 @@
 use Rattle.eco_batches.proofs.Common.{◌++◌, map, ap, ◌∙◌, insert_all, unrepeated, key_pattern, same_pattern}
+use Rattle.eco_batches.proofs.Brings.{closed_alone}
 use Rattle.eco_batches.proofs.Done.{if_done}
 use Rattle.eco_batches.proofs.Once.{lists_closed, once_is_distinct}
 use Rattle.eco_systems.specs.Writes as writes
@@ -8,7 +9,8 @@ pub returns-then-bring_nothing-clause-closed : goal.returns-then-bring_nothing-c
 returns-then-bring_nothing-clause-closed g c =
     let w = g.H.Holdings.world c.args.holdings.now in
     if_done
-    (λ made. lists_closed w c.args.writes.now c.args.writes.now c.add_few.new.closed.items (c.bring_nothing.ensures c.if-bring_nothing.true)
+    (λ made. lists_closed w c.args.writes.now c.args.writes.now c.add_few.new.closed.items
+    (closed_alone w c.args.writes.now (c.bring_nothing.ensures.0 c.if-bring_nothing.true))
     (made ∙ ap (λ ks. insert_all same_pattern ks (map (writes.widened w) c.args.writes.now)) c.clear.ensures.items))
     c.add_few.result c.add_few.ensures
 

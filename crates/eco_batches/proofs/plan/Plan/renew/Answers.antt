@@ -8,7 +8,7 @@ returns-then-are_known-clause-placed g c =
     let w = g.H.Holdings.world c.args.holdings.now in
     let plan = c.args.self.now in
     cuts_are_placed c.systems_are_ordered.ensures.order c.batches_are_unique.ensures.joining w plan.systems.items plan.outlines plan.order.items
-    c.requires.order (subst (λ ds. AllZip (IsOutline w) ds plan.outlines) c.deref.ensures.value (c.are_known.ensures c.if-are_known.true))
+    c.requires.order (subst (λ ds. AllZip (IsOutline w) ds plan.outlines) c.deref.ensures.value (c.are_known.ensures.outlines c.if-are_known.true))
     (batches_in plan) c.requires.cut
 
 pub returns-then-is-clause-placed : goal.returns-then-is-clause-placed

@@ -91,7 +91,7 @@ fn only_name(ids: &[Id], entity: Entity) -> Option<Id>
 {
     let mut only = None;
     for id in ids {
-        if id.names(entity) {
+        if may_name(*id, entity) && id.names(entity) {
             if only.is_some() {
                 return None;
             }
@@ -99,4 +99,17 @@ fn only_name(ids: &[Id], entity: Entity) -> Option<Id>
         }
     }
     only
+}
+
+// Whether one that the id is made of has the entity's index. Few have, so few ids have to be compared whole.
+#[inline(always)]
+fn may_name(id: Id, entity: Entity) -> bool
+    ensures { IsTrue (names_entity id entity) → IsTrue result }
+{
+    match id {
+        Id::One(own) => own.index == entity.index,
+        Id::Two(relationship, target) => {
+            relationship.index == entity.index || target.index == entity.index
+        }
+    }
 }

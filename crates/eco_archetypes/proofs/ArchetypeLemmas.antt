@@ -94,7 +94,7 @@ changes_type s s' n o sets = record {
   others = λ k other. ap (option_map (λ (t : TableState). t.ids)) (sets.others k other);
 }
 
-module _ {S E : Type 0} {ks : List Cache} {s : List (Option TableState)} {m : HashMap (List Id) ℕ S} {l : Lists} {g : List (HashMap Id ℕ E)}
+module _ {S : Type 0} {ks : List Cache} {s : List (Option TableState)} {m : HashMap (List Id) ℕ S} {l : Lists} {g : List (List (Id × ℕ))}
     (found : IsArchetypes s m l g ks) where
   module _ {s' : List (Option TableState)} where
     module _ {ks' : List Cache} {m' : HashMap (List Id) ℕ S} {l' : Lists} where
@@ -134,7 +134,7 @@ module _ {S E : Type 0} {ks : List Cache} {s : List (Option TableState)} {m : Ha
   found_ready ready exact = found_kept (λ k. refl) ready found.matches found.agreed (exact (type_at s) found.cached)
 
   -- two tables are joined by an id, of whose types one has it alone besides what the other has
-  pub found_linked : {g' : List (HashMap Id ℕ E)} (a b : ℕ) (i : Id) (ids : List Id) → Links g g' a i b → type_at s a ≡ Some ids
+  pub found_linked : {g' : List (List (Id × ℕ))} (a b : ℕ) (i : Id) (ids : List Id) → Links g g' a i b → type_at s a ≡ Some ids
       → type_at s b ≡ Some (toggled ids i) → toggled (toggled ids i) i ≡ ids → IsArchetypes s m l g' ks
   found_linked {g'} a b i ids links from to twice = record {
     types = found.types;
@@ -145,7 +145,7 @@ module _ {S E : Type 0} {ks : List Cache} {s : List (Option TableState)} {m : Ha
   }
 
   -- the same edges lead on
-  pub found_unlinked : {g' : List (HashMap Id ℕ E)} → SameEdges g g' → IsArchetypes s m l g' ks
+  pub found_unlinked : {g' : List (List (Id × ℕ))} → SameEdges g g' → IsArchetypes s m l g' ks
   found_unlinked same = record {
     types = found.types;
     matches = found.matches;
@@ -173,7 +173,7 @@ module _ {S E : Type 0} {ks : List Cache} {s : List (Option TableState)} {m : Ha
       }
 
   -- a table that was dropped is found no more
-  pub found_dropped : {ks' : List Cache} {s' : List (Option TableState)} {m' : HashMap (List Id) ℕ S} {l' : Lists} {g' : List (HashMap Id ℕ E)}
+  pub found_dropped : {ks' : List Cache} {s' : List (Option TableState)} {m' : HashMap (List Id) ℕ S} {l' : Lists} {g' : List (List (Id × ℕ))}
       {n : ℕ} {ids : List Id} → SetsSlot s s' n None → type_at s n ≡ Some ids
       → ((q : List Id) → get same_ids m' q ≡ cond (same_ids ids q) None (get same_ids m q))
       → Turns false (any_matches ids) l l' n

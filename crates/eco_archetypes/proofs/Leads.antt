@@ -21,7 +21,7 @@ pub of_slot_after : {E : Type 0} (P : ℕ → Type 0) (n : ℕ) (r : Result ℕ 
 of_slot_after P n (Ok m) is h = subst P (sym is) h
 of_slot_after P n (Err e) is h = is
 
-module _ {E : Type 0} (s : List (Option TableState)) (g : List (HashMap Id ℕ E)) (graph : IsGraph (type_at s) g) (n m : ℕ) (i : Id)
+module _ (s : List (Option TableState)) (g : List (List (Id × ℕ))) (graph : IsGraph (type_at s) g) (n m : ℕ) (i : Id)
     (leads : edge g n i ≡ Some m) where
   pub lead_there : IsSome (slot_of s m)
   lead_there = let was = graph n m i leads in there_as_typed s m (toggled was.0 i) was.2
@@ -34,8 +34,8 @@ module _ {E : Type 0} (s : List (Option TableState)) (g : List (HashMap Id ℕ E
 
 -- ---- an edge is stored
 
-module _ {S E : Type 0} {ks : List Cache} {s : List (Option TableState)} {m : HashMap (List Id) ℕ S} {l : Lists}
-    {g : List (HashMap Id ℕ E)} (found : IsArchetypes s m l g ks) (from to : ℕ) (i : Id)
+module _ {S : Type 0} {ks : List Cache} {s : List (Option TableState)} {m : HashMap (List Id) ℕ S} {l : Lists}
+    {g : List (List (Id × ℕ))} (found : IsArchetypes s m l g ks) (from to : ℕ) (i : Id)
     (there : IsSome (slot_of s from)) (up : IsTrue (is_ascending id_cmp (table_in s from).ids))
     (typed : type_at s to ≡ Some (toggled (table_in s from).ids i)) where
   abbrev own : List Id
@@ -58,7 +58,7 @@ module _ {S E : Type 0} {ks : List Cache} {s : List (Option TableState)} {m : Ha
           some_none to (sym (ap (λ j. edge g j i) (sym same) ∙ twofold to k i e) ∙ free)
 
   -- it is stored, or memory was refused
-  pub found_joined : (g' : List (HashMap Id ℕ E)) {A B : Type 0} (r : Result A B) → OnOk r (Links g g' from i to) → OnErr r (SameEdges g g')
+  pub found_joined : (g' : List (List (Id × ℕ))) {A B : Type 0} (r : Result A B) → OnOk r (Links g g' from i to) → OnErr r (SameEdges g g')
       → IsArchetypes s m l g' ks
   found_joined g' (Ok x) links same =
       found_linked found from to i own links (type_there s from there) typed (twice own i up)

@@ -90,7 +90,7 @@ module _ (s s' : List (Option TableState)) (less : IsLess s s') where
     ];
   }
 
-  pub found_swept : {S E : Type 0} {ks ks' : List Cache} (m m' : HashMap (List Id) ℕ S) (l l' : Lists) (g g' : List (HashMap Id ℕ E))
+  pub found_swept : {S : Type 0} {ks ks' : List Cache} (m m' : HashMap (List Id) ℕ S) (l l' : Lists) (g g' : List (List (Id × ℕ)))
       → IsArchetypes s m l g ks
       → ((t : List Id) → get same_ids m' t ≡ kept_if (has_table s') (get same_ids m t)) → KeepsListed (has_table s') l l'
       → KeepsEdges (has_table s') g g' → AreExact (type_at s') ks' → IsArchetypes s' m' l' g' ks'

@@ -237,7 +237,7 @@ not_same t q e h = true≢false (sym ((same_ids-Decides t q).1 h) ∙ e)
 others_typed : {s s' : List (Option TableState)} {n : ℕ} {u : List Id} → TakesType s s' n u → (k : ℕ) → k ≢ n → type_at s' k ≡ type_at s k
 others_typed takes k other = ap (option_map (λ (x : TableState). x.ids)) (takes.others k other)
 
-module _ {S E : Type 0} {ks : List Cache} {s s' : List (Option TableState)} {m m' : HashMap (List Id) ℕ S} {l : Lists} {g : List (HashMap Id ℕ E)}
+module _ {S : Type 0} {ks : List Cache} {s s' : List (Option TableState)} {m m' : HashMap (List Id) ℕ S} {l : Lists} {g : List (List (Id × ℕ))}
     {n : ℕ} {t u : List Id} (found : IsArchetypes s m l g ks) (had : type_at s n ≡ Some t) (takes : TakesType s s' n u)
     (absent : (k : ℕ) → type_at s k ≢ Some u)
     (gets : (q : List Id) → get same_ids m' q ≡ cond (same_ids u q) (Some n) (cond (same_ids t q) None (get same_ids m q))) where
@@ -275,7 +275,7 @@ module _ {S E : Type 0} {ks : List Cache} {s s' : List (Option TableState)} {m m
           let apart : k ≢ n = λ is. not_same t q other (same_Some t q (sym had ∙ ap (type_at s) (sym is) ∙ was)) in
           others_typed takes k apart ∙ was)
 
-  pub found_turned : {ks' : List Cache} {l' : Lists} {g' : List (HashMap Id ℕ E)}
+  pub found_turned : {ks' : List Cache} {l' : Lists} {g' : List (List (Id × ℕ))}
       → IsIdIndex (type_at s') l' → Cuts g g' n → AreAgreed s' → AreTold ks ks' n (Some u) → IsArchetypes s' m' l' g' ks'
   found_turned {ks'} {l'} {g'} index cuts agreed told = record {
     types = renamed_types;

@@ -38,8 +38,8 @@ IsIdIndex types lists = (p : Pattern) (n : ℕ) → lists p n ≡ type_matches (
 
 -- each table is found by its type and by what its type's ids match, nothing else is found, edges lead
 -- from table to table, an id is as wide in each table, and caches have exactly the tables that they are to have
-pub record IsArchetypes {S E : Type 0} (slots : List (Option TableState)) (by_type : HashMap (List Id) ℕ S)
-    (by_id : Lists) (edges : List (HashMap Id ℕ E)) (caches : List Cache) : Type 0 where
+pub record IsArchetypes {S : Type 0} (slots : List (Option TableState)) (by_type : HashMap (List Id) ℕ S)
+    (by_id : Lists) (edges : List (List (Id × ℕ))) (caches : List Cache) : Type 0 where
   pub types : IsTypeMap (type_at slots) by_type
   pub matches : IsIdIndex (type_at slots) by_id
   pub graph : IsGraph (type_at slots) edges

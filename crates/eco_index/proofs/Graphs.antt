@@ -1,6 +1,6 @@
 -- The graph of tables as tables come and go.
 use Rattle.eco_index.proofs.Common.{◌≡◌, ◌≢◌, ℕ, ◌&&◌, ◌||◌, Bool, true, false, cond, List, Option, Some, None, nat_eq, refl, sym, ap}
-use Rattle.eco_index.proofs.Common.{◌∙◌, HashMap, Decides-eqb, Id, same_id, edge, leads_to, Links, Cuts, IsGraph, toggled, id_eq-Decides}
+use Rattle.eco_index.proofs.Common.{◌∙◌, Decides-eqb, Id, same_id, edge, leads_to, Links, Cuts, IsGraph, toggled, id_eq-Decides}
 use Rattle.eco_index.proofs.EdgeLists.{way, same_slot, leads_there}
 
 some_is : {X : Type 0} (x y : X) → Some x ≡ Some y → x ≡ y
@@ -10,7 +10,7 @@ none_some : {X : Type 0} (P : Type 0) (x : X) → None ≡ Some x → P
 none_some P x e = cc
 
 -- a table comes to a slot that was empty
-module _ {S : Type 0} (types types' : ℕ → Option (List Id)) (lists : List (HashMap Id ℕ S)) (slot : ℕ) where
+module _ (types types' : ℕ → Option (List Id)) (lists : List (List (Id × ℕ))) (slot : ℕ) where
   pub graph_made : IsGraph types lists → types slot ≡ None → ((k : ℕ) → k ≢ slot → types' k ≡ types k) → IsGraph types' lists
   graph_made graph vacant others n m i e =
       let was = graph n m i e in
@@ -19,7 +19,7 @@ module _ {S : Type 0} (types types' : ℕ → Option (List Id)) (lists : List (H
       (was.0, others n there ∙ was.1, others m here ∙ was.2)
 
 -- a table goes, and with it all edges from and to its slot
-module _ {S : Type 0} (types types' : ℕ → Option (List Id)) (lists lists' : List (HashMap Id ℕ S)) (slot : ℕ) where
+module _ (types types' : ℕ → Option (List Id)) (lists lists' : List (List (Id × ℕ))) (slot : ℕ) where
   pub graph_cut : IsGraph types lists → Cuts lists lists' slot → ((k : ℕ) → k ≢ slot → types' k ≡ types k) → IsGraph types' lists'
   graph_cut graph cuts others n m i e = way (nat_eq n slot || leads_to slot (edge lists n i))
       ((ids : List Id) × (types' n ≡ Some ids) × (types' m ≡ Some (toggled ids i)))
@@ -37,7 +37,7 @@ module _ {S : Type 0} (types types' : ℕ → Option (List Id)) (lists lists' : 
       either false b p q = cc
 
 -- two tables are joined, whose types differ by the id
-pub graph_linked : {S : Type 0} (types : ℕ → Option (List Id)) (lists lists' : List (HashMap Id ℕ S)) (a b : ℕ) (i : Id) (ids : List Id)
+pub graph_linked : (types : ℕ → Option (List Id)) (lists lists' : List (List (Id × ℕ))) (a b : ℕ) (i : Id) (ids : List Id)
     → IsGraph types lists → Links lists lists' a i b → types a ≡ Some ids → types b ≡ Some (toggled ids i) → toggled (toggled ids i) i ≡ ids
     → IsGraph types lists'
 graph_linked types lists lists' a b i ids graph links from to twice n m j e = way (nat_eq n b && same_id i j)

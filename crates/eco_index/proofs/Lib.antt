@@ -7,6 +7,7 @@ pub mod Keys
 pub mod Listings
 pub mod Named
 mod Places
+pub mod SlotEdges
 pub mod SlotLists
 pub mod Sweeping
 pub mod Toggles

@@ -1,7 +1,7 @@
 -- What is left of what leads to slots where many of these lost their tables.
 use Rattle.eco_index.proofs.Common.{◌≡◌, ℕ, ◌<◌, ◌≤◌, ◌&&◌, ◌||◌, Bool, true, false, not, cond, List, [], ◌∷◌, length, nat_eq}
 use Rattle.eco_index.proofs.Common.{true≢false, rules, Option, Some, None, refl, sym, ap, subst, ◌∙◌, arith, inl, inr, nat_lt, filter, IsEquivalence}
-use Rattle.eco_index.proofs.Common.{HashMap, IsDistinct, list_any, lookup, cases_lt, Decides-eqb, slice_get_past, entity_eq-Decides, Entity, Id, Key, Single}
+use Rattle.eco_index.proofs.Common.{IsDistinct, list_any, lookup, cases_lt, Decides-eqb, slice_get_past, entity_eq-Decides, Entity, Id, Key, Single}
 use Rattle.eco_index.proofs.Common.{Pair, Relationship, Target, AnyPair, Slots, edge, edge_of, IsTwofold, same_key, slots_of, has_slot, is_empty}
 use Rattle.std.specs.Bool.{Decides}
 use Rattle.std.specs.Map.{keys_of}
@@ -190,11 +190,11 @@ past_all n slot len is past = elim (cases_lt n slot) [
   | inr ge ↦ omega (arith, ge, past)
 ]
 
-abbrev pub swept_edge : {S : Type 0} → (ℕ → Bool) → List (HashMap Id ℕ S) → ℕ → Id → Option ℕ
+abbrev pub swept_edge : (ℕ → Bool) → List (List (Id × ℕ)) → ℕ → Id → Option ℕ
 swept_edge stays g n i = cond (stays n) (kept_if stays (edge g n i)) None
 
 -- all lists are gone through
-pub swept_all : {S : Type 0} (stays : ℕ → Bool) (g now : List (HashMap Id ℕ S)) (slot : ℕ) → length g ≤ slot
+pub swept_all : (stays : ℕ → Bool) (g now : List (List (Id × ℕ))) (slot : ℕ) → length g ≤ slot
     → ((n : ℕ) (i : Id) → edge now n i ≡ cond (nat_lt n slot) (swept_edge stays g n i) (edge g n i)) → KeepsEdges stays g now
 swept_all stays g now slot past swept n i = swept n i ∙ by (nat_lt n slot) refl
   where
@@ -207,7 +207,7 @@ swept_all stays g now slot past swept n i = swept n i ∙ by (nat_lt n slot) ref
     by false is = nothing (stays n) (edge g n i) (ap (λ o. edge_of o i) (slice_get_past g n (past_all n slot (length g) is past)))
 
 -- where edges between slots that pass the test stay, those that stay lead back
-pub twofold_swept : {S : Type 0} (stays : ℕ → Bool) (g g' : List (HashMap Id ℕ S)) → KeepsEdges stays g g' → IsTwofold g → IsTwofold g'
+pub twofold_swept : (stays : ℕ → Bool) (g g' : List (List (Id × ℕ))) → KeepsEdges stays g g' → IsTwofold g → IsTwofold g'
 twofold_swept stays g g' keeps twofold n m i e = back (stays n) refl (sym (keeps n i) ∙ e)
   where
     back : (b : Bool) → stays n ≡ b → cond b (kept_if stays (edge g n i)) None ≡ Some m → edge g' m i ≡ Some n

@@ -17,5 +17,5 @@ abbrev pub lists_in : IdIndex → Lists
 lists_in i = lists_of i.slots
 
 -- the edges of each slot
-abbrev pub edge_lists : Edges → List (HashMap Id ℕ Seed)
+abbrev pub edge_lists : Edges → List (List (Id × ℕ))
 edge_lists e = e.lists.items

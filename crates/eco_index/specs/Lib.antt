@@ -3,6 +3,7 @@ pub mod Marks
 pub mod TypeTests
 pub mod TypeMap
 pub mod Edges
+pub mod EdgeList
 pub mod Naming
 pub mod SlotList
 pub mod Sweeping

@@ -1,6 +1,5 @@
 -- What is left of what leads to slots where many of these lost their tables.
 use Rattle.std.specs.Prelude.{◌≡◌, ℕ, Bool, cond, ◌&&◌, List, Option, None, Some}
-use Rattle.std.specs.HashMap.{HashMap}
 use Rattle.eco_ids.specs.declared.id.Id.{Id}
 use Rattle.eco_ids.specs.declared.pattern.Pattern.{Pattern}
 use Rattle.eco_index.specs.Edges.{edge}
@@ -15,7 +14,6 @@ kept_if stays (Some n) = cond (stays n) (Some n) None
 abbrev pub KeepsListed : (ℕ → Bool) → Lists → Lists → Type 0
 KeepsListed stays old new = (p : Pattern) (n : ℕ) → new p n ≡ (old p n && stays n)
 
-module _ {S : Type 0} where
-  -- the edges between slots that pass the test stay, and no other
-  abbrev pub KeepsEdges : (ℕ → Bool) → List (HashMap Id ℕ S) → List (HashMap Id ℕ S) → Type 0
-  KeepsEdges stays old new = (n : ℕ) (i : Id) → edge new n i ≡ cond (stays n) (kept_if stays (edge old n i)) None
+-- the edges between slots that pass the test stay, and no other
+abbrev pub KeepsEdges : (ℕ → Bool) → List (List (Id × ℕ)) → List (List (Id × ℕ)) → Type 0
+KeepsEdges stays old new = (n : ℕ) (i : Id) → edge new n i ≡ cond (stays n) (kept_if stays (edge old n i)) None

@@ -1,21 +1,18 @@
 //! Edges between the slots of tables: which table an id more or less leads to.
 ghost use Rattle.std.specs.Prelude.{◌≡◌, cond, ◌≢◌, ◌≤◌, ◌<◌, [], ℕ, length, List, Option, IsTrue, None, Some, OnOk, OnErr};
-ghost use Rattle.std.specs.HashMap.{get};
 ghost use Rattle.std.specs.Map.{lookup};
 ghost use Rattle.eco_ids.specs.declared.id.Id.{Id as Ids};
 ghost use Rattle.eco_index.specs.Sweeping.{kept_if, KeepsEdges};
 ghost use Rattle.eco_index.specs.Edges.{edge, same_id, IsTwofold, SameEdges, Puts, Links, TakesBack, Cuts};
 
+mod edge_list;
+
+use crate::edges::edge_list::EdgeList;
 use crate::occupancy::Occupancy;
 use crate::seed::Seed;
 use eco_ids::{Id, TableSlot};
-use indexmap::IndexMap;
-use indexmap::map::Slice;
 use std::alloc::{AllocError, Global};
 use std::mem;
-
-// So many edges of a slot cost less to compare one by one than to hash an id.
-const FEW_EDGES: usize = 4;
 
 /// For each slot of a table, and for an id, the slot of the table whose type has the id too, or lacks it alone. No model:
 /// contracts see the lists, as `edge_lists`.
@@ -23,7 +20,7 @@ const FEW_EDGES: usize = 4;
 pub struct Edges {
     alloc: Global,
     seed: Seed,
-    lists: Vec<IndexMap<Id, TableSlot, Seed>>,
+    lists: Vec<EdgeList>,
     ghost twofold: { IsTwofold lists.items },
 }
 
@@ -46,13 +43,7 @@ impl Edges {
     pub fn get(&self, slot: TableSlot, id: Id) -> Option<TableSlot>
         ensures { result ≡ edge (edge_lists self.now) slot id }
     {
-        let own = self.lists.get(slot)?;
-        if own.len() <= FEW_EDGES {
-            return lead_among(own.as_slice(), id);
-        }
-        // A copy of its own, since what is handed over stands in memory: so an id that is looked for among a few need not.
-        let wanted = id;
-        find_edge(own, wanted)
+        self.lists.get(slot)?.get(id)
     }
 
     /// The id leads from either slot to the other from now on. An `Err` comes where memory is refused, and then no edge has
@@ -78,72 +69,47 @@ impl Edges {
     pub fn cut(&mut self, slot: TableSlot)
         ensures { Cuts (edge_lists self.old) (edge_lists self.new) slot }
     {
-        cut_all(self.alloc, self.seed, &mut self.lists, slot);
+        cut_all(&mut self.lists, slot);
     }
-}
-
-// Where the id leads, of many edges. Apart, so that a few cost no more than a look at each.
-#[inline(never)]
-fn find_edge(edges: &IndexMap<Id, TableSlot, Seed>, id: Id) -> Option<TableSlot>
-    ensures { result ≡ get same_id edges.now id }
-{
-    edges.get(&id).copied()
-}
-
-// Where the id leads, of a few edges.
-#[inline(always)]
-fn lead_among(edges: Slice<'_, Id, TableSlot>, id: Id) -> Option<TableSlot>
-    ensures { result ≡ lookup (same_id id) edges.entry }
-{
-    for place in 0..edges.len() {
-        let (own, to) = edges.get_index(place).unwrap();
-        if id.is(*own) {
-            return Some(*to);
-        }
-    }
-    None
 }
 
 // A list of edges for each slot below. An `Err` may leave some of them.
-fn cover(
-    alloc: Global,
-    seed: Seed,
-    lists: &mut Vec<IndexMap<Id, TableSlot, Seed>>,
-    len: usize,
-) -> Result<(), AllocError>
+fn cover(lists: &mut Vec<EdgeList>, len: usize) -> Result<(), AllocError>
     ensures same { SameEdges lists.old.items lists.new.items }
     ensures enough { OnOk result (len ≤ length lists.new.items) }
     ensures kept { length lists.old.items ≤ length lists.new.items }
 {
     while lists.len() < len {
-        lists.push(IndexMap::with_hasher(alloc, seed))?;
+        lists.push(EdgeList::new())?;
     }
     Ok(())
 }
 
 // The id leads from the slot to another from now on.
 fn put(
-    lists: &mut Vec<IndexMap<Id, TableSlot, Seed>>,
+    alloc: Global,
+    seed: Seed,
+    lists: &mut Vec<EdgeList>,
     slot: TableSlot,
     id: Id,
     to: TableSlot,
 ) -> Result<(), AllocError>
-    requires { slot < length lists.old.items }
+    requires there { slot < length lists.old.items }
+    requires absent { edge lists.old.items slot id ≡ None }
     ensures ok { OnOk result (Puts lists.old.items lists.new.items slot id (Some to)) }
     ensures err { OnErr result (SameEdges lists.old.items lists.new.items) }
     ensures len { length lists.new.items ≡ length lists.old.items }
 {
-    lists[slot].insert(id, to)?;
-    Ok(())
+    lists[slot].put(alloc, seed, id, to)
 }
 
 // The id leads nowhere from the slot. It takes no memory.
-fn take(lists: &mut Vec<IndexMap<Id, TableSlot, Seed>>, slot: TableSlot, id: Id)
+fn take(lists: &mut Vec<EdgeList>, slot: TableSlot, id: Id)
     ensures taken { Puts lists.old.items lists.new.items slot id None }
     ensures len { length lists.new.items ≡ length lists.old.items }
 {
     if slot < lists.len() {
-        lists[slot].swap_remove(&id);
+        lists[slot].take(id);
     }
 }
 
@@ -151,21 +117,23 @@ fn take(lists: &mut Vec<IndexMap<Id, TableSlot, Seed>>, slot: TableSlot, id: Id)
 fn link_both(
     alloc: Global,
     seed: Seed,
-    lists: &mut Vec<IndexMap<Id, TableSlot, Seed>>,
+    lists: &mut Vec<EdgeList>,
     from: TableSlot,
     id: Id,
     to: TableSlot,
 ) -> Result<(), AllocError>
-    requires { edge lists.old.items from id ≡ None }
+    requires apart { from ≢ to }
+    requires from { edge lists.old.items from id ≡ None }
+    requires to { edge lists.old.items to id ≡ None }
     ensures ok { OnOk result (Links lists.old.items lists.new.items from id to) }
     ensures err { OnErr result (SameEdges lists.old.items lists.new.items) }
 {
     let Some(len) = from.max(to).checked_add(1) else {
         return Err(AllocError);
     };
-    cover(alloc, seed, lists, len)?;
-    put(lists, from, id, to)?;
-    match put(lists, to, id, from) {
+    cover(lists, len)?;
+    put(alloc, seed, lists, from, id, to)?;
+    match put(alloc, seed, lists, to, id, from) {
         Ok(()) => Ok(()),
         Err(refused) => {
             take(lists, from, id);
@@ -175,13 +143,10 @@ fn link_both(
 }
 
 // Each of these edges of a slot has no edge back any more. It takes no memory.
-fn take_back(
-    lists: &mut Vec<IndexMap<Id, TableSlot, Seed>>,
-    own: &mut IndexMap<Id, TableSlot, Seed>,
-)
+fn take_back(lists: &mut Vec<EdgeList>, own: &mut EdgeList)
     ensures taken { TakesBack own.old lists.old.items lists.new.items }
     ensures len { length lists.new.items ≡ length lists.old.items }
-    ensures none { own.new.entries ≡ [] }
+    ensures none { own.new ≡ [] }
 {
     while let Some((id, to)) = own.pop() {
         take(lists, to, id);
@@ -189,12 +154,7 @@ fn take_back(
 }
 
 // No edge leads from the slot or to it. It takes no memory.
-fn cut_all(
-    alloc: Global,
-    seed: Seed,
-    lists: &mut Vec<IndexMap<Id, TableSlot, Seed>>,
-    slot: TableSlot,
-)
+fn cut_all(lists: &mut Vec<EdgeList>, slot: TableSlot)
     requires { IsTwofold lists.old.items }
     ensures { Cuts lists.old.items lists.new.items slot }
 {
@@ -203,7 +163,7 @@ fn cut_all(
             // Each edge leads back, so none leads here either.
             return;
         }
-        let mut own = mem::replace(&mut lists[slot], IndexMap::with_hasher(alloc, seed));
+        let mut own = mem::replace(&mut lists[slot], EdgeList::new());
         take_back(lists, &mut own);
         // Its room serves the edges of the next table in the slot.
         lists[slot] = own;
@@ -211,7 +171,7 @@ fn cut_all(
 }
 
 // Of each list the edges between slots that have tables stay.
-fn keep_in_each<T: Occupancy>(lists: &mut Vec<IndexMap<Id, TableSlot, Seed>>, tables: &T)
+fn keep_in_each<T: Occupancy>(lists: &mut Vec<EdgeList>, tables: &T)
     ensures { KeepsEdges (T.has_table tables.now) lists.old.items lists.new.items }
 {
     for slot in 0..lists.len() {
@@ -220,14 +180,13 @@ fn keep_in_each<T: Occupancy>(lists: &mut Vec<IndexMap<Id, TableSlot, Seed>>, ta
 }
 
 // Of the edges of a slot those stay that lead to a table, where the slot has one.
-fn keep_own<T: Occupancy>(own: &mut IndexMap<Id, TableSlot, Seed>, slot: TableSlot, tables: &T)
-    ensures { (i : Ids) → get same_id own.new i
-        ≡ cond (T.has_table tables.now slot) (kept_if (T.has_table tables.now) (get same_id own.old i)) None }
+fn keep_own<T: Occupancy>(own: &mut EdgeList, slot: TableSlot, tables: &T)
+    ensures { (i : Ids) → lookup (same_id i) own.new
+        ≡ cond (T.has_table tables.now slot)
+        (kept_if (T.has_table tables.now) (lookup (same_id i) own.old)) None }
 {
     if tables.has_table(slot) {
-        // No two ids are equal, as the length says.
-        let _count = own.len();
-        own.retain(|_, to| tables.has_table(*to));
+        own.keep_there(tables);
     } else {
         own.clear();
     }

@@ -2,11 +2,11 @@ use Rattle.eco_index.proofs.Common.{◌∙◌, ◌∷◌, [], arith, length-appe
 use Rattle.eco_index.proofs.EdgeLists.{cover_edges}
 use Rattle.eco_index.proofs.edges.cover.Goals as goal
 
-pub loop-alloc-preserved : goal.loop-alloc-preserved
-loop-alloc-preserved c =
-    let lists = c.loop-alloc.lists.items in
-    let more = c.with_hasher.result in
+pub loop-lists-preserved : goal.loop-lists-preserved
+loop-lists-preserved c =
+    let lists = c.loop-lists.lists.items in
+    let more = c.new.result in
     rw c.in_ok-push.ensures.items (
-      λ n j. cover_edges lists more c.with_hasher.ensures.empty n j ∙ c.loop-alloc.invariant.0 n j,
-      omega (arith, length-append lists (more ∷ []), c.loop-alloc.invariant.1),
+      λ n j. cover_edges lists more c.new.ensures n j ∙ c.loop-lists.invariant.0 n j,
+      omega (arith, length-append lists (more ∷ []), c.loop-lists.invariant.1),
     )

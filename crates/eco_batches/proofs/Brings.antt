@@ -4,8 +4,8 @@ use Rattle.eco_batches.proofs.Common.{◌∷◌, ◌++◌, map, flat_map, refl, 
 use Rattle.eco_batches.proofs.Common.{get_or, length, take, IsTrue, true≢false, arith, Option, Some, None, option_map, option_to_list, slice_get}
 use Rattle.eco_batches.proofs.Common.{AllByRecursion, list_any, map-append, take_more, same_Some, none-some, neither, Entity, Id, Part, Is, Each, Any, Pattern}
 use Rattle.eco_batches.proofs.Common.{One, Two, WorldState, Record, has, record_of, id_eq_is, id_eq_itself, entity_eq_is, entity_eq_itself, pattern_head}
-use Rattle.eco_batches.proofs.Common.{BringsNothing, pattern_with_head, BringsPattern, InClosedPatterns, some_left, some_right, AreClosed, HasKnownTarget, brought, brought_by}
-use Rattle.eco_batches.proofs.Common.{ids_in, pattern_key, keys_by, known_keys, key_pattern, targets_below, Key}
+use Rattle.eco_batches.proofs.Common.{pattern_with_head, BringsPattern, InClosedPatterns, some_left, some_right, AreClosed, HasKnownTarget, brought, brought_by}
+use Rattle.eco_batches.proofs.Common.{BringsNothing, ids_in, pattern_key, keys_by, known_keys, key_pattern, targets_below, Key}
 use Rattle.std.proofs.lemmas.Bool.{cases_eq}
 use Rattle.std.proofs.lemmas.Grind.{flat_map-append}
 use Rattle.eco_ids.specs.declared.entity.TheConstants.{WITH}

@@ -5,7 +5,7 @@ use Rattle.eco_batches.proofs.Common.{IsTrue, None, Some, arith, take_all, trait
 use Rattle.eco_batches.proofs.Common.{IsDistinct, list_any, drop_all, drop_more, map-append, map_push, take_more, list_any-append, Pattern, pattern_overlaps}
 use Rattle.eco_batches.proofs.Common.{WorldState, has_any, batched, ListsClosed, writes_trait, same_pattern, OutlineModel, IsOutline, clash_at, clash_of}
 use Rattle.eco_batches.proofs.Common.{closed_in, disturbs, kills_in, kills_too, late_at, reads_in, overlaps, Declared, or-false, or_assoc}
-use Rattle.eco_batches.proofs.Common.{◌↔◌, IsKnown, ListsFew, zero, suc, widened}
+use Rattle.eco_batches.proofs.Common.{◌↔◌, same_Some, IsKnown, ListsFew, zero, suc, widened}
 use Rattle.eco_batches.proofs.Brings.{closed_alone}
 use Rattle.eco_batches.proofs.Once.{lists_closed, once_is_distinct}
 use Rattle.eco_ids.proofs.Ascending.{both, first, second}
@@ -178,17 +178,32 @@ outlined_more w edition same_edition ds k d old new closed shown below all liste
       traits = ap (λ e. list_any (writes_trait e) shown) same_edition;
     })))
 
-beq_same : (a b : Bool) → IsTrue (beq a b) → a ≡ b
+pub beq_same : (a b : Bool) → IsTrue (beq a b) → a ≡ b
 beq_same true true h = refl
 beq_same true false h = absurd (true≢false (sym h))
 beq_same false true h = absurd (true≢false (sym h))
 beq_same false false h = refl
 
-same_beq : (a b : Bool) → a ≡ b → IsTrue (beq a b)
+pub same_beq : (a b : Bool) → a ≡ b → IsTrue (beq a b)
 same_beq true true e = refl
 same_beq true false e = sym e
 same_beq false true e = e
 same_beq false false e = refl
+
+-- outlines are the same up to one more
+pub same_more : (os ps : List OutlineModel) (k : ℕ) → k < length os → k < length ps → take k os ≡ take k ps → slice_get os k ≡ slice_get ps k
+    → take (k + 1) os ≡ take (k + 1) ps
+same_more os ps k own other before same =
+    let one : OutlineModel = record { closed = []; writes_traits = false; kills = false } in
+    let at = same_Some _ _ (sym (slice_get-get_or os k one own) ∙ same ∙ slice_get-get_or ps k one other) in
+    take_more os k one own ∙ (λ i. before i ++ at i ∷ []) ∙ sym (take_more ps k one other)
+
+-- outlines that say the same are the same
+pub alike : (o p : Option OutlineModel) → is_some o ≡ true → is_some p ≡ true → closed_in o ≡ closed_in p → traits_in o ≡ traits_in p
+    → kills_in o ≡ kills_in p → o ≡ p
+alike None p own other closed traits kills = absurd (true≢false (sym own))
+alike (Some o) None own other closed traits kills = absurd (true≢false (sym other))
+alike (Some o) (Some p) own other closed traits kills = λ i. Some (record { closed = closed i; writes_traits = traits i; kills = kills i })
 
 -- an outline that was worked out before is one of the system still, where so much is the same
 pub known_by : (w : WorldState) (d : Declared) (edition : Edition) → edition ≡ w.edition → (o : Option OutlineModel) → is_some o ≡ true

@@ -1,15 +1,19 @@
--- `==` of outlines says whether they are the same.
-use Rattle.eco_batches.proofs.Common.{◌≡◌, List, arith, pointwise, pointwise_decides, common_steps, Decides, Pattern, Outline}
-use Rattle.eco_ids.proofs.Ascending.{both, first, second}
+-- `!=` of lists of patterns says whether they differ.
+use Rattle.eco_batches.proofs.Common.{◌≡◌, Bool, true, false, List, pointwise, pointwise_decides, sym, ◌∙◌, true≢false, Decides, Pattern}
+use Rattle.std.specs.Prelude.{not}
 use Rattle.eco_batches.proofs.Patterns.{pattern_eq-Decides}
 use Rattle.eco_ids.specs.contracts.pattern.PatternPartialEq.TheImpl as pattern_eq
-use Rattle.eco_batches.specs.contracts.outline.OutlinePartialEq.TheImpl as outline_eq
 
-outline_eq-Decides : (a b : Outline) → Decides ((outline_eq.eq-value).it a b) (a ≡ b)
-outline_eq-Decides a b = grind (arith, common_steps, first, second, both)
-
-pub patterns-Decide : (xs ys : List Pattern) → Decides (pointwise (pattern_eq.eq-value).it xs ys) (xs ≡ ys)
+patterns-Decide : (xs ys : List Pattern) → Decides (pointwise (pattern_eq.eq-value).it xs ys) (xs ≡ ys)
 patterns-Decide = pointwise_decides pattern_eq-Decides
 
-pub outlines-Decide : (xs ys : List Outline) → Decides (pointwise (outline_eq.eq-value).it xs ys) (xs ≡ ys)
-outlines-Decide = pointwise_decides outline_eq-Decides
+turned : (a b : Bool) → not a ≡ b → a ≡ not b
+turned true b e = λ i. not (e i)
+turned false b e = λ i. not (e i)
+
+pub no_other : (xs ys : List Pattern) (differ : Bool) → differ ≡ not (pointwise (pattern_eq.eq-value).it xs ys) → differ ≡ false → xs ≡ ys
+no_other xs ys differ is none = (patterns-Decide xs ys).0 (turned (pointwise (pattern_eq.eq-value).it xs ys) false (sym is ∙ none))
+
+pub another : (xs ys : List Pattern) (differ : Bool) → differ ≡ not (pointwise (pattern_eq.eq-value).it xs ys) → differ ≡ true → xs ≡ ys → ⊥
+another xs ys differ is some same =
+    true≢false (sym ((patterns-Decide xs ys).1 same) ∙ turned (pointwise (pattern_eq.eq-value).it xs ys) true (sym is ∙ some))

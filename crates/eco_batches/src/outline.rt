@@ -14,7 +14,7 @@ use std::alloc::{AllocError, Global};
 use std::marker::Model;
 
 // Where the closed writes of a system stand among those of all, whether one of them writes traits, and whether the system kills.
-#[derive(Clone, Copy, PartialEq, Eq)]
+#[derive(Clone, Copy)]
 struct Outline {
     start: usize,
     end: usize,
@@ -61,9 +61,29 @@ impl Outlines {
 
     /// Whether they are those of as many systems that write and kill the same.
     pub fn is(&self, other: &Outlines) -> bool
-        ensures { IsTrue result → self.now ≡ other.now }
+        ensures { IsTrue result ↔ (self.now ≡ other.now) }
     {
-        self.closed == other.closed && self.list == other.list
+        if self.len() != other.len() {
+            return false;
+        }
+        for at in 0..self.len() {
+            if !self.is_at(at, other) {
+                return false;
+            }
+        }
+        true
+    }
+
+    // Whether the outlines at a position are the same.
+    fn is_at(&self, at: usize, other: &Outlines) -> bool
+        requires own { at < length self.now }
+        requires there { at < length other.now }
+        ensures { IsTrue result ↔ (slice_get self.now at ≡ slice_get other.now at) }
+    {
+        if self.closed(at) != other.closed(at) {
+            return false;
+        }
+        self.writes_traits(at) == other.writes_traits(at) && self.kills(at) == other.kills(at)
     }
 
     // One more system.
@@ -116,8 +136,8 @@ impl Outlines {
         self.writes_traits(at) == traits && self.kills(at) == system.kills
     }
 
-    /// Whether they are known to be those of these systems, as they were worked out before. It takes no memory, and less time
-    /// than to work them out.
+    /// Whether they are known to be those of these systems, as they were worked out before: each system has few writes, none of
+    /// which brings others, and what is worked out of it is the same. It takes no memory, and less time than to work them out.
     pub fn are_known<H: Holdings>(&self, holdings: &H, systems: &[Declared]) -> bool
         ensures outlines { IsTrue result
             → AllZip (IsOutline (H.world holdings.now)) systems.now self.now }

@@ -1,9 +1,16 @@
-use Rattle.eco_batches.proofs.Common.{map, sym, ◌∙◌, outline_of}
-use Rattle.eco_batches.proofs.Same.{outlines-Decide, patterns-Decide}
+use Rattle.eco_batches.proofs.Common.{◌≡◌, ◌∙◌, ap, arith, length, slice_get, sym, true≢false, IsTrue}
+use Rattle.std.proofs.Common.{rules}
+use Rattle.eco_batches.proofs.Joins.{same_more}
 use Rattle.eco_batches.proofs.outline.Outlines.is.Goals as goal
 
-pub returns-then-eq : goal.returns-then-eq
-returns-then-eq c = λ same.
-    let closed = (patterns-Decide c.self.inside.closed.items c.other.inside.closed.items).0 (sym c.eq.ensures ∙ c.if-eq.true) in
-    let list = (outlines-Decide c.self.inside.list.items c.other.inside.list.items).0 (sym c.eq-then-eq.ensures ∙ same) in
-    sym c.self.view_is ∙ (λ i. map (outline_of (closed i)) (list i)) ∙ c.other.view_is
+pub returns-then-not-is_at : goal.returns-then-not-is_at
+returns-then-not-is_at c = (
+  λ t. absurd (true≢false (sym t)),
+  λ same. absurd (true≢false (sym (c.is_at.ensures.1 (ap (λ os. slice_get os c.loop-at.at) same)) ∙ c.if-not-is_at.true)),
+)
+
+pub loop-at-preserved : goal.loop-at-preserved
+loop-at-preserved c =
+    let long : length c.args.self.now ≡ length c.args.other.now = search rules in
+    let same : IsTrue c.is_at.result = search rules in
+    same_more c.args.self.now c.args.other.now c.loop-at.at (omega arith) (omega arith) c.loop-at.invariant (c.is_at.ensures.0 same)

@@ -1,4 +1,4 @@
-use Rattle.eco_batches.proofs.Common.{◌≡◌, ◌↔◌, ◌&&◌, true, false, slice_get, sym, ap, ◌∙◌, subst, true≢false, IsKnown, IsTrue, ListsFew}
+use Rattle.eco_batches.proofs.Common.{◌↔◌, ◌&&◌, slice_get, sym, ◌∙◌, subst, true≢false, IsKnown, IsTrue}
 use Rattle.std.proofs.Common.{rules, IfSome}
 use Rattle.std.specs.Bool.{beq}
 use Rattle.eco_batches.proofs.Joins.{known_by, there_is, unknown_by}

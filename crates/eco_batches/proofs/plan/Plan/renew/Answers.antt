@@ -17,7 +17,7 @@ returns-then-is-clause-placed g c =
     let plan = c.args.self.now in
     let all = subst (λ ds. AllZip (IsOutline w) ds c.in_ok-outlines.outlines) c.deref-2.ensures.value c.in_ok-outlines.ensures in
     cuts_are_placed c.systems_are_ordered.ensures.order c.batches_are_unique.ensures.joining w plan.systems.items plan.outlines plan.order.items
-    c.requires.order (subst (AllZip (IsOutline w) plan.systems.items) (sym (c.is.ensures c.if-is.true)) all) (batches_in plan) c.requires.cut
+    c.requires.order (subst (AllZip (IsOutline w) plan.systems.items) (sym (c.is.ensures.0 c.if-is.true)) all) (batches_in plan) c.requires.cut
 
 pub returns-clause-placed : goal.returns-clause-placed
 returns-clause-placed g c =

@@ -1,7 +1,7 @@
 -- The names that most proofs here cite, passed on from one place. Declares nothing.
 pub use Rattle.std.proofs.Common.{Bool, List, None, Option, Some, [], ap, append_assoc, arith, codes, drop, false, get_or, if◌then◌else◌, length, map}
-pub use Rattle.std.proofs.Common.{nat_le, nat_lt, negsuc, of_z, option_and_then, option_map, pos, refl, replicate, rules, slice_get, subst, suc, sym, take, to_z, true}
-pub use Rattle.std.proofs.Common.{zero, ℕ, ℤ, ◌&&◌, ◌++◌, ◌+◌, ◌-◌, ◌<◌, ◌^◌, ◌∙◌, ◌∷◌, ◌≡◌, ◌≤◌}
+pub use Rattle.std.proofs.Common.{nat_le, nat_lt, negsuc, of_z, option_and_then, option_map, pos, refl, replicate, rules, slice_get, subst, suc, sym, take}
+pub use Rattle.std.proofs.Common.{to_z, true, zero, ℕ, ℤ, ◌&&◌, ◌++◌, ◌+◌, ◌-◌, ◌<◌, ◌^◌, ◌∙◌, ◌∷◌, ◌≡◌, ◌≤◌}
 pub use Rattle.std.proofs.lemmas.List.{append-nil, drop-drop, drop-replicate, drop-set-lt, drop_all, drop_more, length-drop, length-map, length-replicate}
 pub use Rattle.std.proofs.lemmas.List.{map-append, take-append-drop, take_more_set}
 pub use Rattle.std.proofs.lemmas.Option.{option_and_then_some}

@@ -70,9 +70,13 @@ fn set_entry(
     }
 }
 
-// Records that the entry of a slot is set to the sum of its value and another's, where there are both.
+// Says that the branch that calls it is rare.
+#[cold]
+fn cold_path() {}
+
+// Records that the entry of a slot is set to the sum of its value and another's, where there are both. Most rows have both.
 #[inline(always)]
-fn add_up<R: BodyRow>(
+pub(crate) fn add_up<R: BodyRow>(
     writes: &[Pattern],
     row: &R,
     into: usize,
@@ -84,15 +88,14 @@ fn add_up<R: BodyRow>(
         (sum_at (R.row_of row.now) into from))) }
 {
     let Some(id) = entry_at(row, into) else {
+        cold_path();
         return Ok(());
     };
-    if entry_at(row, from).is_none() {
+    if entry_at(row, from).is_none() || !matches_one(writes, id) {
+        cold_path();
         return Ok(());
     }
-    match row.sum(into, from) {
-        Some(sum) => set_id(writes, row.entity(), id, sum, stage),
-        None => Ok(()),
-    }
+    row.set_sum(into, from, id, stage)
 }
 
 // Records the change of the row's entity that an action makes.

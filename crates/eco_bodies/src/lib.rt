@@ -23,5 +23,5 @@ pub use lawful::{
 pub use recording::record_command;
 pub use row::{BodyRow, LentRow};
 pub use script::Script;
-pub use sum::{sum_in_row, sum_of};
+pub use sum::{set_sum_in_row, sum_of};
 pub use systems::{NotAdded, System, Systems};

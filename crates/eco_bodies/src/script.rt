@@ -13,7 +13,7 @@ ghost use Rattle.eco_bodies.specs.Settling.{script_settled};
 
 use crate::action::{Action, first_refusal, some_kills};
 use crate::body::SystemBody;
-use crate::change::record_action;
+use crate::change::{add_up, record_action};
 use crate::row::BodyRow;
 use crate::writes::script_writes;
 use eco_ids::{Pattern, Refusal};
@@ -85,6 +85,10 @@ fn record_actions<R: BodyRow, D: Draws>(
         (D.so_far draws.old) (D.so_far draws.new) (D.is_dry draws.new)) }
 {
     match actions {
+        [Action::Sum { into, from }] => {
+            add_up(writes, row, *into, *from, stage)?;
+            Ok(())
+        }
         [only] => record_action(writes, only, row, draws, stage),
         _ => record_in_turn(writes, actions, row, draws, stage),
     }

@@ -1,19 +1,30 @@
 //! Sums of values.
-ghost use Rattle.std.specs.Prelude.{◌≡◌, ◌<◌, ◌≤◌, get_or, length, map, pos, slice_get};
+ghost use Rattle.std.specs.Prelude.{◌≡◌, ◌<◌, ◌≤◌, ◌++◌, get_or, length, map, pos, slice_get};
+ghost use Rattle.std.specs.Prelude.{option_map, option_to_list, OnErr, OnOk};
+ghost use Rattle.eco_ids.specs.Run.{Set};
 ghost use Rattle.eco_ids.specs.World.{padded};
 ghost use Rattle.eco_bodies.specs.Sums.{sum_of, sum_of_both, bounded_sum, field_sums};
 
-use eco_ids::{FIELD_COUNT, Value};
+use crate::recording::put_command;
+use eco_ids::{Entity, FIELD_COUNT, Id, Value};
+use eco_stages::{Command, Stage};
+use std::alloc::AllocError;
 
 // The sum of two fields, or the bound of their range that is nearest to it.
+fn field_sum(a: i64, b: i64) -> i64
+    ensures { result ≡ bounded_sum a b }
+{
+    a.saturating_add(b)
+}
+
+// The same of any two fields of a value: most are past those of their component, and 0.
 fn bounded_sum(a: i64, b: i64) -> i64
     ensures { result ≡ bounded_sum a b }
 {
-    // Most fields are past those of their component, and 0.
     if b == 0 {
         return a;
     }
-    a.saturating_add(b)
+    field_sum(a, b)
 }
 
 // The sum of the fields at a place.
@@ -44,15 +55,15 @@ fn sums_of<const N: usize>(a: &[i64; N], b: &[i64; N]) -> [i64; N]
 {
     let mut fields = *a;
     for k in 0..N {
-        fields[k] = bounded_sum(a[k], b[k]);
+        fields[k] = field_sum(a[k], b[k]);
     }
     fields
 }
 
-/// The sum of the values in a row of two columns of as many fields, where both have that row: zeros stand behind these in both
-/// values, and in their sum.
+// The sum of the values in a row of two columns of as many fields, where both have that row: zeros stand behind these in both
+// values, and in their sum.
 #[inline(always)]
-pub fn sum_in_row<const N: usize>(one: &[[i64; N]], other: &[[i64; N]], row: usize) -> Option<Value>
+fn sum_in_row<const N: usize>(one: &[[i64; N]], other: &[[i64; N]], row: usize) -> Option<Value>
     requires { N ≤ FIELD_COUNT }
     ensures { result ≡ sum_of_both (slice_get (map padded one.now) row)
         (slice_get (map padded other.now) row) }
@@ -60,4 +71,26 @@ pub fn sum_in_row<const N: usize>(one: &[[i64; N]], other: &[[i64; N]], row: usi
     let a = one.get(row)?;
     let b = other.get(row)?;
     Some(Value::of(sums_of(a, b)))
+}
+
+/// Records that an id is set to the sum of the values in a row of two columns of as many fields, where both have that row. An
+/// `Err` leaves the stage as it was.
+#[inline(always)]
+pub fn set_sum_in_row<const N: usize>(
+    one: &[[i64; N]],
+    other: &[[i64; N]],
+    row: usize,
+    entity: Entity,
+    id: Id,
+    stage: &mut Stage,
+) -> Result<(), AllocError>
+    requires { N ≤ FIELD_COUNT }
+    ensures ok { OnOk result (stage.new ≡ stage.old ++ option_to_list (option_map (λ sum. Set entity id sum)
+        (sum_of_both (slice_get (map padded one.now) row) (slice_get (map padded other.now) row)))) }
+    ensures err { OnErr result (stage.new ≡ stage.old) }
+{
+    match sum_in_row(one, other, row) {
+        Some(sum) => put_command(stage, Command::Set(entity, id, sum)),
+        None => Ok(()),
+    }
 }

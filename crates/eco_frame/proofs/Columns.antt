@@ -19,6 +19,13 @@ use Rattle.eco_world.specs.declared.table_rows.TableRows.{TableRows}
 use Rattle.eco_frame.specs.declared.column.Column.{Column}
 use Rattle.eco_frame.specs.declared.row_columns.RowColumns.{RowColumns}
 use Rattle.eco_frame.specs.Rows.{IsRun, LendsRows, entities_in, lent_in, run_row, shown_in}
+use Rattle.std.specs.Prelude.{◌++◌, option_to_list}
+use Rattle.std.specs.Slice.{IsItemAt}
+use Rattle.eco_ids.specs.Run.{Command}
+use Rattle.eco_bodies.specs.Lent.{item_at}
+use Rattle.eco_bodies.specs.Sums.{sum_of_both}
+use Rattle.eco_frame.proofs.Common.{append-nil}
+use Rattle.eco_frame.proofs.Shown.{found}
 
 -- ---- the values of entries
 
@@ -127,3 +134,33 @@ module _ (w : WorldState) (q : List QuerySlot) (rows : List ValuedRow) (place : 
   own_shown (Some x) row dead lent at is made =
       row_shown w q rows place e entries (map (shown_in row) items) are own listed
       (found_shows (Some x) lent made row e (ap (slice_get x.0.entities.now) is ∙ at))
+
+-- ---- sums where a column is not there
+
+nothing_at : (row : ℕ) (columns : List Column) (k : ℕ) → IsItemAt columns k None → None ≡ item_at (map (shown_in row) columns) k
+nothing_at row columns k at =
+    ap (λ (o : Option Column). unwrap_or (option_map (shown_in row) o) None) (found columns k None at)
+    ∙ ap (λ (o : Option (Option Value)). unwrap_or o None) (sym (slice_get-map (shown_in row) columns k))
+
+no_sum : (v : Option Value) → None ≡ sum_of_both v None
+no_sum None = refl
+no_sum (Some v) = refl
+
+nothing_set : (f : Value → Command) (commands : List Command) (sum : Option Value) → None ≡ sum
+    → commands ≡ commands ++ option_to_list (option_map f sum)
+nothing_set f commands sum is =
+    sym (append-nil commands) ∙ ap (λ (o : Option Value). commands ++ option_to_list (option_map f o)) is
+
+module _ (f : Value → Command) (commands : List Command) (row : ℕ) (columns : List Column) (into from : ℕ) where
+  abbrev shown : ℕ → Option Value
+  shown k = item_at (map (shown_in row) columns) k
+
+  pub none_into : IsItemAt columns into None → commands ≡ commands ++ option_to_list (option_map f (sum_of_both (shown into) (shown from)))
+  none_into at =
+      nothing_set f commands (sum_of_both (shown into) (shown from))
+      (ap (λ (o : Option Value). sum_of_both o (shown from)) (nothing_at row columns into at))
+
+  pub none_from : IsItemAt columns from None → commands ≡ commands ++ option_to_list (option_map f (sum_of_both (shown into) (shown from)))
+  none_from at =
+      nothing_set f commands (sum_of_both (shown into) (shown from))
+      (no_sum (shown into) ∙ ap (λ (o : Option Value). sum_of_both (shown into) o) (nothing_at row columns from at))

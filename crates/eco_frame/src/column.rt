@@ -1,5 +1,7 @@
 //! A column that a slot of a query shows.
-ghost use Rattle.std.specs.Prelude.{◌≡◌, ◌≤◌, ℕ, None, map, slice_get};
+ghost use Rattle.std.specs.Prelude.{◌≡◌, ◌≤◌, ◌++◌, ℕ, None, map, option_map, option_to_list, slice_get};
+ghost use Rattle.std.specs.Prelude.{OnErr, OnOk};
+ghost use Rattle.eco_ids.specs.Run.{Set};
 ghost use Rattle.eco_ids.specs.World.{padded};
 ghost use Rattle.eco_bodies.specs.Sums.{sum_of_both};
 ghost use Rattle.eco_systems.specs.Rows.{entry_value};
@@ -7,12 +9,14 @@ ghost use Rattle.eco_tables.specs.Values.{whole_values};
 ghost use Rattle.eco_frame.specs.Rows.{lent_in, lent_value, shown_in};
 
 use crate::row::shows_values;
-use eco_bodies::{sum_in_row, sum_of};
+use eco_bodies::{set_sum_in_row, sum_of};
 use eco_ids::value::FIELD_COUNT;
-use eco_ids::{Id, Value};
+use eco_ids::{Entity, Id, Value};
 use eco_query::Slot;
+use eco_stages::{Command, Stage};
 use eco_tables::Values;
 use eco_world::TableRows;
+use std::alloc::AllocError;
 
 /// The values that a slot shows in the rows of a table; none, where it shows none there.
 #[derive(Clone, Copy)]
@@ -98,26 +102,68 @@ impl<'a> Column<'a> {
         }
     }
 
-    /// The sum of the value in a row and that of another column. Columns of as many fields, of which most have few, add just these.
-    #[inline(always)]
-    pub(crate) fn sum(&self, other: &Column<'_>, row: usize) -> Option<Value>
-        ensures { result ≡ sum_of_both (shown_in row self.now) (shown_in row other.now) }
-    {
-        match (self.values, other.values) {
-            (Values::One(rows), Values::One(others)) => sum_in_row(rows, others, row),
-            (Values::Two(rows), Values::Two(others)) => sum_in_row(rows, others, row),
-            (Values::Three(rows), Values::Three(others)) => sum_in_row(rows, others, row),
-            (Values::Four(rows), Values::Four(others)) => sum_in_row(rows, others, row),
-            _ => self.sum_of_any(other, row),
-        }
-    }
-
-    // The same of columns of any number of fields.
-    fn sum_of_any(&self, other: &Column<'_>, row: usize) -> Option<Value>
+    // The sum of the value in a row and that of another column.
+    fn sum(&self, other: &Column<'_>, row: usize) -> Option<Value>
         ensures { result ≡ sum_of_both (shown_in row self.now) (shown_in row other.now) }
     {
         let value = self.value(row)?;
         let others = other.value(row)?;
         Some(sum_of(value, others))
+    }
+
+    // Records that an id is set to that sum, where there is one. An `Err` leaves the stage as it was.
+    #[cold]
+    fn set_any_sum(
+        &self,
+        other: &Column<'_>,
+        row: usize,
+        entity: Entity,
+        id: Id,
+        stage: &mut Stage,
+    ) -> Result<(), AllocError>
+        ensures ok { OnOk result (stage.new ≡ stage.old ++ option_to_list (option_map
+            (λ sum. Set entity id sum) (sum_of_both (shown_in row self.now) (shown_in row other.now)))) }
+        ensures err { OnErr result (stage.new ≡ stage.old) }
+    {
+        let Some(sum) = self.sum(other, row) else {
+            return Ok(());
+        };
+        match stage.record(Command::Set(entity, id, sum)) {
+            Ok(()) => Ok(()),
+            Err(_) => Err(AllocError),
+        }
+    }
+
+    /// Records that an id is set to the sum of the value in a row and that of another column, where there are both. Columns of
+    /// as many fields, of which most have few, add just these, and record the sum where they have it: handed on, it would be
+    /// copied through memory. An `Err` leaves the stage as it was.
+    #[inline(always)]
+    pub(crate) fn set_sum(
+        &self,
+        other: &Column<'_>,
+        row: usize,
+        entity: Entity,
+        id: Id,
+        stage: &mut Stage,
+    ) -> Result<(), AllocError>
+        ensures ok { OnOk result (stage.new ≡ stage.old ++ option_to_list (option_map
+            (λ sum. Set entity id sum) (sum_of_both (shown_in row self.now) (shown_in row other.now)))) }
+        ensures err { OnErr result (stage.new ≡ stage.old) }
+    {
+        match (self.values, other.values) {
+            (Values::One(rows), Values::One(others)) => {
+                set_sum_in_row(rows, others, row, entity, id, stage)
+            }
+            (Values::Two(rows), Values::Two(others)) => {
+                set_sum_in_row(rows, others, row, entity, id, stage)
+            }
+            (Values::Three(rows), Values::Three(others)) => {
+                set_sum_in_row(rows, others, row, entity, id, stage)
+            }
+            (Values::Four(rows), Values::Four(others)) => {
+                set_sum_in_row(rows, others, row, entity, id, stage)
+            }
+            _ => self.set_any_sum(other, row, entity, id, stage),
+        }
     }
 }

@@ -2,6 +2,8 @@
 use crate::column::Column;
 use eco_bodies::BodyRow;
 use eco_ids::{Entity, Id, Value};
+use eco_stages::Stage;
+use std::alloc::AllocError;
 
 /// A row of a query's results, lent from the columns in which it shows its values (Flecs manual, Systems). It owns nothing.
 #[derive(Drop)]
@@ -37,10 +39,16 @@ impl BodyRow for ColumnRow<'_> {
     }
 
     #[inline(always)]
-    fn sum(&self, into: usize, from: usize) -> Option<Value> {
+    fn set_sum(
+        &self,
+        into: usize,
+        from: usize,
+        id: Id,
+        stage: &mut Stage,
+    ) -> Result<(), AllocError> {
         match (self.columns.get(into), self.columns.get(from)) {
-            (Some(column), Some(other)) => column.sum(other, self.row),
-            _ => None,
+            (Some(column), Some(other)) => column.set_sum(other, self.row, self.entity, id, stage),
+            _ => Ok(()),
         }
     }
 }

@@ -13,9 +13,9 @@ returns-in_err-insert-clause-short c = λ short.
     rw c.self.view_is c.in-Err.ensures.says.1 in
     let one_more : length (insert c.self.inside.ids.items c.in-Err.place c.args.id) ≡ length c.self.inside.ids.items + 1 =
     length-insert c.self.inside.ids.items c.in-Err.place c.args.id (rw c.self.view_is c.in-Err.ensures.within) in
-    let few : length (with_item id_cmp c.self.inside.ids.items c.args.id) ≤ 2 = rw c.self.view_is short in
+    let few : length (with_item id_cmp c.self.inside.ids.items c.args.id) ≤ 3 = rw c.self.view_is short in
     let same : length (with_item id_cmp c.self.inside.ids.items c.args.id) ≡ length c.self.inside.ids.items + 1 = ap length (sym is) ∙ one_more in
-    let wide : 2 ≤ c.self.inside.ids.capacity = c.spilled-is_long.ensures.at_least_inline in
+    let wide : 3 ≤ c.self.inside.ids.capacity = c.spilled-is_long.ensures.at_least_inline in
     let room : length c.self.inside.ids.items + 1 ≤ c.self.inside.ids.capacity = omega arith in
     let done : IsOk c.insert.result = c.insert.ensures.succeeds room in
     search rules
@@ -40,9 +40,9 @@ pub returns-in_err-push-clause-short : goal.returns-in_err-push-clause-short
 returns-in_err-push-clause-short c = λ short.
     let items = c.self.inside.ids.items in
     let is = at_end items c.as_slice.result.now c.args.id c.as_slice.ensures (c.is_behind.ensures c.if-is_behind.true) c.self.invariant.ascending in
-    let few : length (with_item id_cmp items c.args.id) ≤ 2 = rw c.self.view_is short in
+    let few : length (with_item id_cmp items c.args.id) ≤ 3 = rw c.self.view_is short in
     let same : length (with_item id_cmp items c.args.id) ≡ length items + 1 = ap length is ∙ length-append items (c.args.id ∷ []) in
-    let wide : 2 ≤ c.self.inside.ids.capacity = c.spilled-is_long.ensures.at_least_inline in
+    let wide : 3 ≤ c.self.inside.ids.capacity = c.spilled-is_long.ensures.at_least_inline in
     let room : length items + 1 ≤ c.self.inside.ids.capacity = omega arith in
     let done : IsOk c.push.result = c.push.ensures.succeeds room in
     search rules

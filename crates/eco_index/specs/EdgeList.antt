@@ -15,8 +15,8 @@ edges_of (kept.Few edges) = edges.items
 edges_of (kept.Many edges) = edges.value.entries
 
 -- no id leads to two slots: of a map, that is known
-abbrev pub AreApart : Kept → Type 0
-AreApart kept.Empty = ⊤
-AreApart (kept.One edge) = ⊤
-AreApart (kept.Few edges) = IsDistinct same_id (keys_of edges.items)
-AreApart (kept.Many edges) = ⊤
+abbrev pub HasEachIdOnce : Kept → Type 0
+HasEachIdOnce kept.Empty = ⊤
+HasEachIdOnce (kept.One edge) = ⊤
+HasEachIdOnce (kept.Few edges) = IsDistinct same_id (keys_of edges.items)
+HasEachIdOnce (kept.Many edges) = ⊤

@@ -50,13 +50,13 @@ impl Drop for Kept {
 impl Model for EdgeList {
     ghost use Rattle.std.specs.Prelude.{List, ℕ};
     ghost use Rattle.eco_ids.specs.declared.id.Id.{Id as Ids};
-    ghost use Rattle.eco_index.specs.EdgeList.{edges_of, AreApart};
+    ghost use Rattle.eco_index.specs.EdgeList.{edges_of, HasEachIdOnce};
 
     ghost Value = { List (Ids × ℕ) };
 
     ghost view = { λ l. edges_of l.kept };
 
-    ghost invariant = { λ l. AreApart l.kept };
+    ghost invariant = { λ l. HasEachIdOnce l.kept };
 }
 
 impl EdgeList {

@@ -1,7 +1,7 @@
 use Rattle.eco_index.proofs.Common.{◌≡◌, ◌++◌, ◌∷◌, [], ap, sym, subst, ◌∙◌, lookup, same_id}
 use Rattle.std.specs.List.{IsDistinct}
 use Rattle.std.specs.Map.{keys_of}
-use Rattle.eco_index.specs.EdgeList.{edges_of, AreApart}
+use Rattle.eco_index.specs.EdgeList.{edges_of, HasEachIdOnce}
 use Rattle.eco_index.proofs.SlotEdges.{added, apart_pushed, two_apart}
 use Rattle.eco_index.proofs.edges.edge_list.EdgeList.put.Goals as goal
 
@@ -19,7 +19,7 @@ invariant_of-self-in_ok-push-in-Few c =
     let few = ap edges_of c.in-Few.is in
     let same : c.in-Few.few.items ≡ c.args.self.now = cc in
     subst (λ es. IsDistinct same_id (keys_of es)) (sym c.in_ok-push-in-Few.ensures.items)
-    (apart_pushed c.in-Few.few.items c.args.id c.args.to (subst AreApart c.in-Few.is c.self.invariant)
+    (apart_pushed c.in-Few.few.items c.args.id c.args.to (subst HasEachIdOnce c.in-Few.is c.self.invariant)
     (ap (lookup (same_id c.args.id)) same ∙ c.requires))
 
 pub returns-in_ok-insert-in-Many-clause-ok : goal.returns-in_ok-insert-in-Many-clause-ok

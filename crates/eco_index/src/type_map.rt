@@ -136,6 +136,7 @@ impl TypeMap {
         ensures entry { result ≡ slice_get (slots_by_type self.old).entries place }
         ensures taken { IfSome result
             (λ p. Updates same_ids (slots_by_type self.old) (slots_by_type self.new) p.0 None) }
+        ensures none { IfNone result (IsUnchanged (slots_by_type self.old) (slots_by_type self.new)) }
         ensures room { spare (slots_by_type self.old) ≤ spare (slots_by_type self.new) }
     {
         let taken = self.slots.swap_remove_index(place);

@@ -1,5 +1,6 @@
 //! Which keys may be kept, and where they may stand, told without a look into the map.
 ghost use Rattle.std.specs.Prelude.{◌≡◌, ◌+◌, ◌-◌, ◌^◌, ◌<◌, min, ℕ, true, false, OnOk, IfSome, IfNone};
+ghost use Rattle.eco_index.specs.declared.id_index.key.Key.{Key as Keys};
 ghost use Rattle.eco_index.specs.Marks.{key_mark, may_be_kept, KeepsMarks};
 
 use crate::id_index::key::Key;
@@ -35,7 +36,9 @@ const LAST_PLACE: usize = 0xFFFF_FFFE;
 
 impl Marks {
     /// No entity is marked.
-    pub fn new(alloc: Global) -> Marks {
+    pub fn new(alloc: Global) -> Marks
+        ensures { (k : Keys) → key_mark result k ≡ 0 }
+    {
         Marks {
             singles: Numbers::new(alloc),
             pairs: Numbers::new(alloc),

@@ -33,7 +33,7 @@ pub use Rattle.eco_ids.proofs.Ascending.{both, first, has_at, remove_is_without,
 pub use Rattle.eco_ids.proofs.Exact.{id_eq_sym}
 pub use Rattle.eco_ids.proofs.Facts.{any_is, equal_tie, id_eq_is, id_eq_itself, or_left, or_parts, or_right, same_tests}
 pub use Rattle.eco_ids.proofs.IdOrder.{id_cmp_total, same_id}
-pub use Rattle.eco_ids.proofs.Results.{err_says, on_ok}
+pub use Rattle.eco_ids.proofs.Results.{err_says, on_err, on_ok}
 pub use Rattle.eco_ids.proofs.SetLaws.{joins_with, leaves_without}
 pub use Rattle.eco_ids.specs.Order.{has_item, id_cmp, id_eq, is_ascending, with_item, without_item}
 pub use Rattle.eco_ids.specs.declared.id.Id.{Id}

@@ -2,6 +2,7 @@
 use Rattle.eco_archetypes.proofs.Common.{◌≡◌, ◌≢◌, ◌||◌, ℕ, List, ◌∷◌, Option, None, Some, OnSome, IfNone, IsSome, option_map}
 use Rattle.eco_archetypes.proofs.Common.{unwrap_or, is_some, nat_eq, refl, subst, sym, ap, ◌∙◌, inl, inr, list_any, cases_eq, Decides-eqb, Id, TableState}
 use Rattle.eco_archetypes.proofs.Common.{empty_table, slot_of, no_table, rowless_type, SetsSlot, SetsRoom, type_at, KeepsTypes, RowlessIn, SameRows, SameSlots}
+use Rattle.eco_archetypes.proofs.Common.{table_in, with_room}
 use Rattle.eco_ids.proofs.Lists.{not_equal}
 use Rattle.eco_archetypes.proofs.ArchetypeLemmas.{same_rows, sets_types}
 
@@ -66,3 +67,26 @@ unmade s s1 s2 n ids ws vacant sets dropped k =
       | inl here ↦ ap (slot_of s2) here ∙ gone.changed ∙ sym (ap (slot_of s) here ∙ vacant)
       | inr other ↦ gone.others k other ∙ sets.others k other
     ]
+
+-- a table that was made, and was refused room, is dropped again
+pub unmade_roomless : (s s1 s2 s3 : List (Option TableState)) (n : ℕ) (ids : List Id) (ws : List ℕ) → slot_of s n ≡ None
+    → SetsSlot s s1 n (Some (empty_table ids ws)) → SameSlots s1 s2
+    → OnSome (rowless_type (slot_of s2 n)) (SetsSlot s2 s3 n None) → SameSlots s s3
+unmade_roomless s s1 s2 s3 n ids ws vacant sets same dropped =
+    unmade s s2 s3 n ids ws vacant
+    (record { changed = same n ∙ sets.changed; others = λ k other. same k ∙ sets.others k other }) dropped
+
+-- a table whose room stays what it was is what it was
+pub same_room : (s s' : List (Option TableState)) (n : ℕ) → SetsRoom s s' n → IsSome (slot_of s n)
+    → (table_in s' n).room ≡ (table_in s n).room → SameSlots s s'
+same_room s s' n sets there same k =
+    elim (cases_eq k n) [
+      | inl here ↦
+          ap (slot_of s') here ∙ sets.changed ∙ ap (λ r. Some (with_room (table_in s n) r)) same ∙ own (slot_of s n) there
+          ∙ sym (ap (slot_of s) here)
+      | inr other ↦ sets.others k other
+    ]
+  where
+    own : (o : Option TableState) → IsSome o → Some (with_room (unwrap_or o no_table) (unwrap_or o no_table).room) ≡ o
+    own None h = absurd (cc)
+    own (Some t) h = refl

@@ -1,7 +1,7 @@
 -- Tables in slots, each found by its type and by the patterns that match its ids.
 use Rattle.std.specs.Prelude.{◌≡◌, ◌≢◌, ℕ, ◌≤◌, Bool, MatchBool, false, IsTrue, ◌&&◌, nat_lt, nat_eq, length, map, List}
 use Rattle.std.specs.Prelude.{◌∷◌, slice_get}
-use Rattle.std.specs.Prelude.{Option, None, Some, option_map, is_some, Result, IfOk, MatchResult, OnOk}
+use Rattle.std.specs.Prelude.{Option, None, Some, option_map, is_some, Result, IfOk, MatchResult, OnOk, OnErr}
 use Rattle.std.specs.HashMap.{HashMap}
 use Rattle.std.specs.List.{list_any, IsDistinct, flat_map}
 use Rattle.eco_ids.specs.declared.id.Id.{Id}
@@ -95,7 +95,8 @@ row_at slots n row = slice_get (table_in slots n).rows row
 abbrev pub SameRows : List (Option TableState) → List (Option TableState) → Type 0
 SameRows old new = (n row : ℕ) → row_at new n row ≡ row_at old n row
 
--- the table of a type was found, or was made without rows, and has room for so many more; no row changed, and no table went
+-- the table of a type was found, or was made without rows, and has room for so many more; no row changed, and no table went;
+-- where memory was refused, nothing has changed
 pub record FindsRoom {E : Type 0} (w : Indexed Registration) (old new : List (Option TableState)) (ids : List Id) (more : ℕ) (r : Result ℕ E)
     : Type 0 where
   pub typed : IfOk r (λ n. type_at new n ≡ Some ids)
@@ -105,6 +106,7 @@ pub record FindsRoom {E : Type 0} (w : Indexed Registration) (old new : List (Op
   pub rows : SameRows old new
   pub types : KeepsTypes old new
   pub widths : StillCover w old new
+  pub refused : OnErr r (SameSlots old new)
 
 -- the table has rows, and its type passes the test
 abbrev pub is_found_by : (List Id → Bool) → Option TableState → Bool

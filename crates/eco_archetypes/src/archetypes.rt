@@ -161,7 +161,7 @@ impl Archetypes {
     }
 
     /// The slot of the table with a type, with room for so many more rows. Where there is no table of the type, one without
-    /// rows is made. An `Err` comes where memory is refused, and then no table was made. No row changes.
+    /// rows is made. An `Err` comes where memory is refused, and then nothing has changed. No row changes.
     #[inline(always)]
     pub fn room_for(
         &mut self,
@@ -272,7 +272,7 @@ impl Archetypes {
         }
     }
 
-    /// Room for more rows in a table. An `Err` keeps all rows and the room that was there.
+    /// Room for more rows in a table. An `Err` comes where memory is refused, and changes nothing.
     #[inline]
     pub(crate) fn reserve_rows(&mut self, slot: TableSlot, more: usize) -> Result<(), AllocError>
         requires { IsSome (slot_of self.old slot) }
@@ -280,6 +280,7 @@ impl Archetypes {
         ensures kept { (table_in self.old slot).room ≤ (table_in self.new slot).room }
         ensures room { OnOk result (more ≤ (table_in self.new slot).room) }
         ensures err { OnErr result ((table_in self.new slot).room ≡ (table_in self.old slot).room) }
+        ensures refused { OnErr result (SameSlots self.old self.new) }
         ensures rows { SameRows self.old self.new }
         ensures widths { KeepsWidths self.old self.new }
     {

@@ -56,7 +56,7 @@ fn differs_there(own: &[Id], other: &[Id], place: usize, id: Id) -> bool
 impl Archetypes {
     /// The slot of the table whose type is that of the table in this slot with one id, which it has, exchanged for another,
     /// which it lacks. The table has room for one more row, and where there was none it is made. An `Err` comes where memory
-    /// is refused, and then no table was made. No row changes.
+    /// is refused, and then nothing has changed. No row changes.
     pub fn exchange(
         &mut self,
         entities: &EntityIndex,

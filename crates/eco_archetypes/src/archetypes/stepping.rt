@@ -25,7 +25,7 @@ pub(super) fn toggled(type_list: &TypeList, id: Id) -> Result<TypeList, AllocErr
 impl Archetypes {
     /// The slot of the table that an id leads to: its type has the id where that of the table in this slot lacks it, and
     /// lacks it where that has it. The table has room for so many more rows, and where there was none it is made. An `Err`
-    /// comes where memory is refused, and then no table was made. No row changes.
+    /// comes where memory is refused, and then nothing has changed. No row changes.
     #[inline(always)]
     pub fn step(
         &mut self,

@@ -1,6 +1,7 @@
 use Rattle.std.proofs.Common.{rules}
+use Rattle.eco_archetypes.proofs.Common.{err_says}
 use Rattle.eco_archetypes.proofs.ArchetypeLemmas.{then_rows}
-use Rattle.eco_archetypes.proofs.Makings.{rowless_set, rowless_reset, made_rows, roomy_types, dropped_types}
+use Rattle.eco_archetypes.proofs.Makings.{rowless_set, rowless_reset, made_rows, roomy_types, dropped_types, unmade_roomless}
 use Rattle.eco_archetypes.proofs.Widths.{kept_widths, same_kept}
 use Rattle.eco_archetypes.proofs.archetypes.Archetypes.make_with_room.Goals as goal
 
@@ -13,6 +14,7 @@ returns-in_err-slot c = record {
   rows = search rules;
   types = search rules;
   widths = kept_widths _ _ (same_kept _ _ c.in_err-slot.ensures.err) _;
+  refused = err_says _ c.in_err-slot.ensures.err;
 }
 
 pub returns-in-Ok : goal.returns-in-Ok
@@ -24,6 +26,7 @@ returns-in-Ok c = record {
   rows = then_rows _ _ _ (made_rows _ _ _ _ _ c.in_ok-slot.ensures.vacant c.in_ok-slot.ensures.makes) c.reserve_rows.ensures.rows;
   types = roomy_types _ _ _ _ _ c.in_ok-slot.ensures.vacant c.in_ok-slot.ensures.makes _ c.reserve_rows.ensures.sets;
   widths = search rules;
+  refused = tt;
 }
 
 pub returns-in-Err : goal.returns-in-Err
@@ -41,4 +44,7 @@ returns-in-Err c = record {
       dropped_types _ _ _ _ _ c.in_ok-slot.ensures.vacant c.in_ok-slot.ensures.makes _ c.reserve_rows.ensures.sets _ _
       c.drop_empty.ensures.dropped c.drop_empty.ensures.kept;
   widths = search rules;
+  refused =
+      unmade_roomless _ _ _ _ _ _ _ c.in_ok-slot.ensures.vacant c.in_ok-slot.ensures.makes c.in-Err.ensures.refused
+      c.drop_empty.ensures.dropped;
 }

@@ -200,51 +200,29 @@ impl Store {
         tables
     }
 
-    /// Makes an entity with these ids, all with zeros, at the lowest free index, else at the first unknown one. It has this
-    /// name and this arity, or none.
-    ///
-    /// Refused with `BadName` where the name is none, with `NameTaken` where a living entity has it, and with `NoMoreIds`
-    /// where every index below the limit is in use or retired, in this order; then with `OutOfMemory` where memory is
-    /// refused. A refusal changes nothing.
+    /// Makes an entity without ids and arity, at the lowest free index, else at the first unknown one. It has this name, or
+    /// none. Refused as [`create`](Store::create) is.
     #[inline(always)]
-    pub fn create(
-        &mut self,
-        name: Option<&str>,
-        arity: Option<u8>,
-        type_list: &TypeList,
-    ) -> Result<Entity, Refusal>
-        ensures step { CreatesRecord self.old.entities (option_copied name.entry) arity type_list.now
-            result self.new.entities }
-    {
-        // Who calls for an entity without ids mostly makes the list for this call alone: a branch of its own spares the list.
-        if type_list.as_slice().is_empty() {
-            return self.create_bare(name, arity);
-        }
-        self.create_at_length(name, arity, type_list)
-    }
-
-    // What `create` does without ids.
-    #[inline(never)]
-    fn create_bare(&mut self, name: Option<&str>, arity: Option<u8>) -> Result<Entity, Refusal>
-        ensures step { CreatesRecord self.old.entities (option_copied name.entry) arity []
+    pub fn create_bare(&mut self, name: Option<&str>) -> Result<Entity, Refusal>
+        ensures step { CreatesRecord self.old.entities (option_copied name.entry) None []
             result self.new.entities }
     {
         // Most entities have no name, and are made one after another.
         if name.is_none() {
-            if let Some(entity) = self.create_in_room(arity) {
+            if let Some(entity) = self.create_in_room() {
                 return Ok(entity);
             }
         }
         let none = TypeList::empty(self.alloc);
-        self.create_at_length(name, arity, &none)
+        self.create(name, None, &none)
     }
 
-    // What `create` does without a name and ids, where that wants no memory and the type without ids is the one that was asked for
+    // What `create_bare` does without a name, where that wants no memory and the type without ids is the one that was asked for
     // last; the answer is the entity. Else nothing changes.
-    #[inline]
-    fn create_in_room(&mut self, arity: Option<u8>) -> Option<Entity>
+    #[inline(always)]
+    fn create_in_room(&mut self) -> Option<Entity>
         ensures step { IfSome result (λ e.
-            CreatesRecord self.old.entities None arity [] (Ok e) self.new.entities) }
+            CreatesRecord self.old.entities None None [] (Ok e) self.new.entities) }
         ensures none { IfNone result (self.new ≡ self.old) }
     {
         // A place's row fits, as a table has no more rows than there are indices.
@@ -254,14 +232,19 @@ impl Store {
         let entity = self
             .layout
             .entities
-            .create_in_room(arity, Place { table, row })?;
+            .create_in_room(None, Place { table, row })?;
         self.layout.archetypes.push_row(table, entity);
         Some(entity)
     }
 
-    // What `create` does in any case.
+    /// Makes an entity with these ids, all with zeros, at the lowest free index, else at the first unknown one. It has this
+    /// name and this arity, or none.
+    ///
+    /// Refused with `BadName` where the name is none, with `NameTaken` where a living entity has it, and with `NoMoreIds`
+    /// where every index below the limit is in use or retired, in this order; then with `OutOfMemory` where memory is
+    /// refused. A refusal changes nothing.
     #[inline(never)]
-    fn create_at_length(
+    pub fn create(
         &mut self,
         name: Option<&str>,
         arity: Option<u8>,

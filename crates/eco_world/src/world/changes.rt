@@ -74,8 +74,7 @@ impl World {
             (may_create self.old (option_copied name.entry)) self.old result self.new }
     {
         eco_ids::laws::steps_keep_lawful();
-        let none = TypeList::empty(self.alloc);
-        self.store.create(name, None, &none)
+        self.store.create_bare(name)
     }
 
     /// Makes a component whose values have this many fields, 1 to 4 in a world of the first edition and 1 to 8 in one of the

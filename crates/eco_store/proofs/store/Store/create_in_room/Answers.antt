@@ -19,17 +19,17 @@ invariant_of-self-2 c =
     let s1 = c.push_row.new.self in
     let e = c.in_ok-entity.entity in
     let at : Place = record { table = c.in_ok-table.table; row = c.in_ok-table.row } in
-    let fresh = newcomer None c.args.arity in
+    let fresh = newcomer None None in
     let w1 = with_new w e fresh in
-    let made = creates_unnamed w e c.args.arity c.in_ok-entity.ensures.next in
+    let made = creates_unnamed w e None c.in_ok-entity.ensures.next in
     let is = c.in_ok-entity.ensures.some ∙ placed_new w e fresh at c.in_ok-entity.ensures.next in
     let puts = found_puts l s s1 at e [] (λ n k. refl) c.in_ok-table.ensures.typed c.in_ok-table.ensures.row c.push_row.ensures.row in
     record {
       laid =
           found_laid l s s1 at e [] (λ n k. refl) c.in_ok-table.ensures.typed c.in_ok-table.ensures.row c.push_row.ensures.row c.create_in_room.new.self
-          (still_created w w1 s s1 None c.args.arity [] _ refl e made at _ is c.self.invariant.laid.store puts).0
+          (still_created w w1 s s1 None None [] _ refl e made at _ is c.self.invariant.laid.store puts).0
           (placed_covers c.needs_never_grow.ensures w1 _ s1 e at is
-          (called c.needs_never_grow.ensures (Create None c.args.arity) w w1 s1 (Ok e, made)
+          (called c.needs_never_grow.ensures (Create None None) w w1 s1 (Ok e, made)
           (c.push_row.ensures.widths _ c.self.invariant.laid.covers)))
           (rowless_beside s at.table (all_staying l.staying) c.self.invariant.laid.tidy);
       done = c.self.invariant.done;
@@ -43,9 +43,9 @@ returns-clause-step c =
     let s1 = c.push_row.new.self in
     let e = c.in_ok-entity.entity in
     let at : Place = record { table = c.in_ok-table.table; row = c.in_ok-table.row } in
-    let fresh = newcomer None c.args.arity in
-    let made = creates_unnamed w e c.args.arity c.in_ok-entity.ensures.next in
+    let fresh = newcomer None None in
+    let made = creates_unnamed w e None c.in_ok-entity.ensures.next in
     let is = c.in_ok-entity.ensures.some ∙ placed_new w e fresh at c.in_ok-entity.ensures.next in
     let puts = found_puts l s s1 at e [] (λ n k. refl) c.in_ok-table.ensures.typed c.in_ok-table.ensures.row c.push_row.ensures.row in
-    (still_created w (with_new w e fresh) s s1 None c.args.arity [] _ (ap (λ (x : StoreState). x.entities) c.self.view_is) e made at _ is
+    (still_created w (with_new w e fresh) s s1 None None [] _ (ap (λ (x : StoreState). x.entities) c.self.view_is) e made at _ is
     c.self.invariant.laid.store puts).1

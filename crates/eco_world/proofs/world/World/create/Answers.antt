@@ -7,8 +7,8 @@ returns c =
     let qs = asked_by c.self.inside.queries.items in
     rw (← c.self.view_is)
     (lifted c.self.inside.edition qs
-    (λ v. Makes record_name v (bare (option_copied c.args.name))) _ c.self.inside.store.entities c.create.new.self.entities c.create.result
-    (rw c.empty-none.ensures at c.create.ensures.step))
+    (λ v. Makes record_name v (bare (option_copied c.args.name))) _ c.self.inside.store.entities c.create_bare.new.self.entities c.create_bare.result
+    c.create_bare.ensures.step)
 
 pub invariant_of-self : goal.invariant_of-self
 invariant_of-self c =

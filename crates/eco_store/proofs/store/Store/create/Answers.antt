@@ -6,7 +6,7 @@ use Rattle.eco_store.proofs.Needing.{called}
 use Rattle.eco_store.proofs.Newborn.{refuses}
 use Rattle.eco_store.proofs.RowCounts.{end_fits}
 use Rattle.eco_store.proofs.StoreChanges.{same_store}
-use Rattle.eco_store.proofs.store.Store.create_at_length.Goals as goal
+use Rattle.eco_store.proofs.store.Store.create.Goals as goal
 
 -- nobody can be made next
 pub returns-in_default : goal.returns-in_default

@@ -4,4 +4,5 @@ pub mod Called
 pub mod Entries
 pub mod Fields
 pub mod Refused
+pub mod RowSums
 pub mod Taken

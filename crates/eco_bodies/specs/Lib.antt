@@ -6,6 +6,7 @@ pub mod Laws
 pub mod Lent
 pub mod LentRows
 pub mod Own
+pub mod RowSums
 pub mod Scripts
 pub mod Settling
 pub mod Sums

@@ -6,10 +6,11 @@ ghost use Rattle.eco_ids.specs.declared.pattern.Pattern.{Pattern as PatternData}
 ghost use Rattle.eco_ids.specs.Run.{Command};
 ghost use Rattle.eco_systems.specs.Rows.{ValuedRow};
 ghost use Rattle.eco_systems.specs.Systems.{IsDeclared};
-ghost use Rattle.eco_bodies.specs.Taking.{OneTook, takes_just};
+ghost use Rattle.eco_bodies.specs.Taking.{AllTook, OneTook, taken_of, takes_just};
 ghost use Rattle.eco_stages.specs.Taking.{Broke, stopped_by};
 
 use crate::row::BodyRow;
+use crate::rows::BodyRows;
 use eco_ids::{Pattern, Refusal};
 use eco_stages::{Draws, Stage};
 
@@ -68,6 +69,29 @@ pub trait SystemBody {
         ensures why { IfErr result (λ why. why ≡ stopped_by (D.is_dry draws.new)) }
         ensures err { IfErr result (λ _. Broke (taken self.now (R.row_of row.now))
             (D.so_far draws.old) (D.so_far draws.new) (D.is_dry draws.new)) };
+
+    /// Records the commands for rows that share their entries, one after another, as `record` does. A body that asks for
+    /// entries alone in all of them may ask once.
+    fn record_rows<R: BodyRows, D: Draws>(
+        &self,
+        rows: &R,
+        draws: &mut D,
+        stage: &mut Stage,
+    ) -> Result<(), Refusal>
+        requires { D.is_dry draws.old ≡ false }
+        ensures rest { D.rest draws.new ≡ D.rest draws.old }
+        ensures wet { IfOk result (λ _. D.is_dry draws.new ≡ false) }
+        ensures ok { IfOk result (λ _. AllTook (commands self.now) (taken self.now) (R.rows_of rows.now)
+            (D.so_far draws.old) (D.so_far draws.new) stage.old stage.new) }
+        ensures why { IfErr result (λ why. why ≡ stopped_by (D.is_dry draws.new)) }
+        ensures err { IfErr result (λ _. Broke (taken_of (taken self.now) (R.rows_of rows.now))
+            (D.so_far draws.old) (D.so_far draws.new) (D.is_dry draws.new)) }
+    {
+        for place in 0..rows.len() {
+            self.record(&rows.row(place), draws, stage)?;
+        }
+        Ok(())
+    }
 
     // It records what it declares.
     ghost declared: { (body : Self) (row : ValuedRow) (draws : List EntityData)

@@ -1,5 +1,6 @@
 //! An action recorded for a row.
-ghost use Rattle.std.specs.Prelude.{◌≡◌, ◌++◌, ◌∷◌, [], false, option_to_list, IfErr, IfOk, List, OnOk, Some};
+ghost use Rattle.std.specs.Prelude.{◌≡◌, ◌++◌, ◌∷◌, [], false, flat_map, option_to_list, IfErr, IfOk, List};
+ghost use Rattle.std.specs.Prelude.{OnOk, Some};
 ghost use Rattle.eco_ids.specs.declared.entity.Entity.{Entity as EntityData};
 ghost use Rattle.eco_ids.specs.declared.refusal.Refusal.TheVariants.{OutOfMemory};
 ghost use Rattle.eco_systems.specs.Systems.{matches_one};
@@ -11,6 +12,7 @@ ghost use Rattle.eco_stages.specs.Taking.{Broke, stopped_by};
 use crate::action::Action;
 use crate::recording::put_command;
 use crate::row::BodyRow;
+use crate::rows::BodyRows;
 use eco_ids::{Entity, Id, Pattern, Refusal, Value};
 use eco_stages::{Command, Draws, Stage};
 use std::alloc::AllocError;
@@ -25,13 +27,21 @@ fn matches_one(patterns: &[Pattern], id: Id) -> bool
 
 // The entry of a slot.
 #[inline(always)]
-fn entry_at<R: BodyRow>(row: &R, slot: usize) -> Option<Id>
-    ensures { result ≡ item_at (R.row_of row.now).entries slot }
+fn entry_in(entries: &[Option<Id>], slot: usize) -> Option<Id>
+    ensures { result ≡ item_at entries.now slot }
 {
-    match row.entries().get(slot) {
+    match entries.get(slot) {
         Some(entry) => *entry,
         None => None,
     }
+}
+
+// That of a row.
+#[inline(always)]
+fn entry_at<R: BodyRow>(row: &R, slot: usize) -> Option<Id>
+    ensures { result ≡ item_at (R.row_of row.now).entries slot }
+{
+    entry_in(row.entries(), slot)
 }
 
 // Records that an id is set to a value, where it matches one of the patterns.
@@ -96,6 +106,31 @@ pub(crate) fn add_up<R: BodyRow>(
         return Ok(());
     }
     row.set_sum(into, from, id, stage)
+}
+
+// Records the same for rows that share their entries, of which it asks once.
+#[inline(always)]
+pub(crate) fn add_up_all<R: BodyRows>(
+    writes: &[Pattern],
+    rows: &R,
+    into: usize,
+    from: usize,
+    stage: &mut Stage,
+) -> Result<(), AllocError>
+    ensures { OnOk result (stage.new ≡ stage.old ++ flat_map (λ row. option_to_list (set_of writes.now row.entity
+        (item_at row.entries into) (sum_at row into from))) (R.rows_of rows.now)) }
+{
+    let entries = rows.entries();
+    let Some(id) = entry_in(entries, into) else {
+        return Ok(());
+    };
+    let Some(_other) = entry_in(entries, from) else {
+        return Ok(());
+    };
+    if !matches_one(writes, id) {
+        return Ok(());
+    }
+    rows.set_sums(into, from, id, stage)
 }
 
 // Records the change of the row's entity that an action makes.

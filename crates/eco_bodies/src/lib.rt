@@ -8,6 +8,7 @@ mod change;
 mod lawful;
 mod recording;
 mod row;
+mod rows;
 mod script;
 mod sum;
 mod systems;
@@ -22,6 +23,7 @@ pub use lawful::{
 };
 pub use recording::record_command;
 pub use row::{BodyRow, LentRow};
+pub use rows::BodyRows;
 pub use script::Script;
-pub use sum::{set_sum_in_row, sum_of};
+pub use sum::{set_sum_in_row, set_sums_in_rows, sum_of};
 pub use systems::{NotAdded, System, Systems};

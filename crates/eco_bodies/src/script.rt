@@ -6,15 +6,16 @@ ghost use Rattle.eco_query.specs.Queries.{slot_view};
 ghost use Rattle.eco_bodies.specs.Actions as spec;
 ghost use Rattle.eco_bodies.specs.Actions.{script_writes};
 ghost use Rattle.eco_bodies.specs.Scripts.{is_allowed, script_commands, script_taken};
-ghost use Rattle.eco_bodies.specs.Taking.{OneTook};
+ghost use Rattle.eco_bodies.specs.Taking.{AllTook, OneTook, taken_of};
 ghost use Rattle.eco_stages.specs.Taking.{Broke, stopped_by};
 ghost use Rattle.eco_bodies.specs.Allowing.{script_declared};
 ghost use Rattle.eco_bodies.specs.Settling.{script_settled};
 
 use crate::action::{Action, first_refusal, some_kills};
 use crate::body::SystemBody;
-use crate::change::{add_up, record_action};
+use crate::change::{add_up, add_up_all, record_action};
 use crate::row::BodyRow;
+use crate::rows::BodyRows;
 use crate::writes::script_writes;
 use eco_ids::{Pattern, Refusal};
 use eco_query::Query;
@@ -94,6 +95,57 @@ fn record_actions<R: BodyRow, D: Draws>(
     }
 }
 
+// Records the actions for each of some rows, one row after another.
+#[inline(always)]
+fn record_each<R: BodyRows, D: Draws>(
+    writes: &[Pattern],
+    actions: &[Action],
+    rows: &R,
+    draws: &mut D,
+    stage: &mut Stage,
+) -> Result<(), Refusal>
+    requires { D.is_dry draws.old ≡ false }
+    ensures rest { D.rest draws.new ≡ D.rest draws.old }
+    ensures wet { IfOk result (λ _. D.is_dry draws.new ≡ false) }
+    ensures ok { IfOk result (λ _. AllTook (script_commands writes.now actions.now) (script_taken actions.now)
+        (R.rows_of rows.now) (D.so_far draws.old) (D.so_far draws.new) stage.old stage.new) }
+    ensures why { IfErr result (λ why. why ≡ stopped_by (D.is_dry draws.new)) }
+    ensures err { IfErr result (λ _. Broke (taken_of (script_taken actions.now) (R.rows_of rows.now))
+        (D.so_far draws.old) (D.so_far draws.new) (D.is_dry draws.new)) }
+{
+    for place in 0..rows.len() {
+        record_actions(writes, actions, &rows.row(place), draws, stage)?;
+    }
+    Ok(())
+}
+
+// Records the actions for some rows. Where they are one sum, it asks once for all rows what is asked of their entries.
+#[inline(always)]
+fn record_all<R: BodyRows, D: Draws>(
+    writes: &[Pattern],
+    actions: &[Action],
+    rows: &R,
+    draws: &mut D,
+    stage: &mut Stage,
+) -> Result<(), Refusal>
+    requires { D.is_dry draws.old ≡ false }
+    ensures rest { D.rest draws.new ≡ D.rest draws.old }
+    ensures wet { IfOk result (λ _. D.is_dry draws.new ≡ false) }
+    ensures ok { IfOk result (λ _. AllTook (script_commands writes.now actions.now) (script_taken actions.now)
+        (R.rows_of rows.now) (D.so_far draws.old) (D.so_far draws.new) stage.old stage.new) }
+    ensures why { IfErr result (λ why. why ≡ stopped_by (D.is_dry draws.new)) }
+    ensures err { IfErr result (λ _. Broke (taken_of (script_taken actions.now) (R.rows_of rows.now))
+        (D.so_far draws.old) (D.so_far draws.new) (D.is_dry draws.new)) }
+{
+    match actions {
+        [Action::Sum { into, from }] => {
+            add_up_all(writes, rows, *into, *from, stage)?;
+            Ok(())
+        }
+        _ => record_each(writes, actions, rows, draws, stage),
+    }
+}
+
 impl Script {
     /// A script for the rows of a query. Refused by the first action for which there is a reason: with `BadTerm` where a
     /// slot of it is not there or is a `!` slot, else with `Undeclared` where the access of a slot does not allow it. Then
@@ -153,6 +205,16 @@ impl SystemBody for Script {
         stage: &mut Stage,
     ) -> Result<(), Refusal> {
         record_actions(&self.writes, &self.actions, row, draws, stage)
+    }
+
+    #[inline]
+    fn record_rows<R: BodyRows, D: Draws>(
+        &self,
+        rows: &R,
+        draws: &mut D,
+        stage: &mut Stage,
+    ) -> Result<(), Refusal> {
+        record_all(&self.writes, &self.actions, rows, draws, stage)
     }
 
     ghost declared = { λ s row draws h.

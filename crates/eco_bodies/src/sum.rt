@@ -1,8 +1,9 @@
 //! Sums of values.
-ghost use Rattle.std.specs.Prelude.{◌≡◌, ◌<◌, ◌≤◌, ◌++◌, get_or, length, map, pos, slice_get};
+ghost use Rattle.std.specs.Prelude.{◌≡◌, ◌<◌, ◌≤◌, ◌+◌, ◌++◌, ◌^◌, get_or, length, map, pos, slice_get};
 ghost use Rattle.std.specs.Prelude.{option_map, option_to_list, OnErr, OnOk};
 ghost use Rattle.eco_ids.specs.Run.{Set};
 ghost use Rattle.eco_ids.specs.World.{padded};
+ghost use Rattle.eco_bodies.specs.RowSums.{set_sums_from};
 ghost use Rattle.eco_bodies.specs.Sums.{sum_of, sum_of_both, bounded_sum, field_sums};
 
 use crate::recording::put_command;
@@ -93,4 +94,27 @@ pub fn set_sum_in_row<const N: usize>(
         Some(sum) => put_command(stage, Command::Set(entity, id, sum)),
         None => Ok(()),
     }
+}
+
+/// Records for each of some entities in turn that its id is set to the sum of the values in its row of two columns of as many
+/// fields, where both have that row: the first entity's is the row of this number, and the others' follow. An `Err` comes where
+/// there is no memory. Not inlined, since a loop keeps more in registers in a function of its own.
+#[inline(never)]
+pub fn set_sums_in_rows<const N: usize>(
+    one: &[[i64; N]],
+    other: &[[i64; N]],
+    first: usize,
+    entities: &[Entity],
+    id: Id,
+    stage: &mut Stage,
+) -> Result<(), AllocError>
+    requires few { N ≤ FIELD_COUNT }
+    requires fit { first + length entities.now ≤ 2 ^ 64 }
+    ensures { OnOk result (stage.new ≡ stage.old
+        ++ set_sums_from (map padded one.now) (map padded other.now) id first entities.now) }
+{
+    for k in 0..entities.len() {
+        set_sum_in_row(one, other, first + k, entities[k], id, stage)?;
+    }
+    Ok(())
 }

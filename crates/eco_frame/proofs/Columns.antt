@@ -137,12 +137,12 @@ module _ (w : WorldState) (q : List QuerySlot) (rows : List ValuedRow) (place : 
 
 -- ---- sums where a column is not there
 
-nothing_at : (row : ℕ) (columns : List Column) (k : ℕ) → IsItemAt columns k None → None ≡ item_at (map (shown_in row) columns) k
+pub nothing_at : (row : ℕ) (columns : List Column) (k : ℕ) → IsItemAt columns k None → None ≡ item_at (map (shown_in row) columns) k
 nothing_at row columns k at =
     ap (λ (o : Option Column). unwrap_or (option_map (shown_in row) o) None) (found columns k None at)
     ∙ ap (λ (o : Option (Option Value)). unwrap_or o None) (sym (slice_get-map (shown_in row) columns k))
 
-no_sum : (v : Option Value) → None ≡ sum_of_both v None
+pub no_sum : (v : Option Value) → None ≡ sum_of_both v None
 no_sum None = refl
 no_sum (Some v) = refl
 

@@ -10,6 +10,7 @@ pub mod Merged
 pub mod Placed
 pub mod Ran
 pub mod Recorded
+pub mod Runs
 pub mod Shown
 pub mod Turns
 pub mod Within

@@ -1,5 +1,6 @@
 -- Rows that a world lends.
-use Rattle.std.specs.Prelude.{◌≡◌, ℕ, ◌<◌, Bool, ◌&&◌, false, not, List, [], Option, None, Some, if◌then◌else◌, is_some}
+use Rattle.std.specs.Prelude.{◌≡◌, ℕ, ◌+◌, ◌<◌, Bool, ◌&&◌, false, not, List, [], ◌∷◌, Option, None, Some, if◌then◌else◌}
+use Rattle.std.specs.Prelude.{is_some}
 use Rattle.std.specs.Prelude.{length, map, option_map, slice_get}
 use Rattle.eco_ids.specs.declared.entity.Entity.{Entity}
 use Rattle.eco_ids.specs.declared.id.Id.{Id}
@@ -17,6 +18,7 @@ use Rattle.eco_world.specs.declared.table_rows.TableRows.{TableRows}
 use Rattle.eco_frame.specs.declared.column.Column.{Column}
 use Rattle.eco_frame.specs.declared.row.WorldRow.{WorldRow}
 use Rattle.eco_frame.specs.declared.column_row.ColumnRow.{ColumnRow}
+use Rattle.eco_frame.specs.declared.column_rows.ColumnRows.{ColumnRows}
 use Rattle.eco_frame.specs.declared.row_columns.RowColumns.{RowColumns}
 
 -- the row that is lent: its entity and entries, with the values that the world has for them
@@ -60,6 +62,16 @@ entities_in (Some x) = x.0.entities.now
 -- the row of columns that is lent: what they show where it stands are its values
 abbrev pub column_row : ColumnRow → ValuedRow
 column_row r = record { entity = r.entity; entries = r.entries.now; values = map (shown_in r.row) r.columns.now }
+
+-- consecutive rows of such columns, from one on, each of which is an entity's
+abbrev pub lent_rows_from : List (Option Id) → List Column → ℕ → List Entity → List ValuedRow
+lent_rows_from entries columns row [] = []
+lent_rows_from entries columns row (e ∷ entities) =
+    record { entity = e; entries = entries; values = map (shown_in row) columns } ∷ lent_rows_from entries columns (row + 1) entities
+
+-- the rows of columns that are lent
+abbrev pub column_rows : ColumnRows → List ValuedRow
+column_rows r = lent_rows_from r.entries.now r.columns.now r.first r.entities.now
 
 -- the row that columns show of an entity that stands in this row of their table
 abbrev pub run_row : RowColumns → ℕ → Entity → ValuedRow

@@ -1,15 +1,16 @@
 //! A column that a slot of a query shows.
-ghost use Rattle.std.specs.Prelude.{◌≡◌, ◌≤◌, ◌++◌, ℕ, None, map, option_map, option_to_list, slice_get};
-ghost use Rattle.std.specs.Prelude.{OnErr, OnOk};
+ghost use Rattle.std.specs.Prelude.{◌≡◌, ◌≤◌, ◌+◌, ◌++◌, ◌^◌, ℕ, None, length, map, option_map, option_to_list};
+ghost use Rattle.std.specs.Prelude.{OnErr, OnOk, slice_get};
 ghost use Rattle.eco_ids.specs.Run.{Set};
 ghost use Rattle.eco_ids.specs.World.{padded};
+ghost use Rattle.eco_bodies.specs.RowSums.{set_sums_from};
 ghost use Rattle.eco_bodies.specs.Sums.{sum_of_both};
 ghost use Rattle.eco_systems.specs.Rows.{entry_value};
 ghost use Rattle.eco_tables.specs.Values.{whole_values};
 ghost use Rattle.eco_frame.specs.Rows.{lent_in, lent_value, shown_in};
 
 use crate::row::shows_values;
-use eco_bodies::{set_sum_in_row, sum_of};
+use eco_bodies::{set_sum_in_row, set_sums_in_rows, sum_of};
 use eco_ids::value::FIELD_COUNT;
 use eco_ids::{Entity, Id, Value};
 use eco_query::Slot;
@@ -164,6 +165,58 @@ impl<'a> Column<'a> {
                 set_sum_in_row(rows, others, row, entity, id, stage)
             }
             _ => self.set_any_sum(other, row, entity, id, stage),
+        }
+    }
+
+    // Records that sum for each of some entities, each row by itself.
+    #[inline(never)]
+    fn set_any_sums(
+        &self,
+        other: &Column<'_>,
+        first: usize,
+        entities: &[Entity],
+        id: Id,
+        stage: &mut Stage,
+    ) -> Result<(), AllocError>
+        requires { first + length entities.now ≤ 2 ^ 64 }
+        ensures { OnOk result (stage.new ≡ stage.old ++ set_sums_from
+            (whole_values self.now.values) (whole_values other.now.values) id first entities.now) }
+    {
+        for k in 0..entities.len() {
+            self.set_any_sum(other, first + k, entities[k], id, stage)?;
+        }
+        Ok(())
+    }
+
+    /// Records the same for each of some entities in turn, of which the first stands in this row, and the others in those
+    /// behind it. An `Err` comes where there is no memory.
+    #[inline(always)]
+    pub(crate) fn set_sums(
+        &self,
+        other: &Column<'_>,
+        first: usize,
+        entities: &[Entity],
+        id: Id,
+        stage: &mut Stage,
+    ) -> Result<(), AllocError>
+        requires { first + length entities.now ≤ 2 ^ 64 }
+        ensures { OnOk result (stage.new ≡ stage.old ++ set_sums_from
+            (whole_values self.now.values) (whole_values other.now.values) id first entities.now) }
+    {
+        match (self.values, other.values) {
+            (Values::One(rows), Values::One(others)) => {
+                set_sums_in_rows(rows, others, first, entities, id, stage)
+            }
+            (Values::Two(rows), Values::Two(others)) => {
+                set_sums_in_rows(rows, others, first, entities, id, stage)
+            }
+            (Values::Three(rows), Values::Three(others)) => {
+                set_sums_in_rows(rows, others, first, entities, id, stage)
+            }
+            (Values::Four(rows), Values::Four(others)) => {
+                set_sums_in_rows(rows, others, first, entities, id, stage)
+            }
+            _ => self.set_any_sums(other, first, entities, id, stage),
         }
     }
 }

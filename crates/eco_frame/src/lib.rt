@@ -5,6 +5,7 @@
 mod batch;
 mod column;
 mod column_row;
+mod column_rows;
 mod frame;
 mod part;
 mod piece;

@@ -5,7 +5,7 @@ ghost use Rattle.eco_stages.specs.Taking.{Broke, Took, stopped_by};
 
 use crate::row_columns::RowColumns;
 use crate::system_rows::SystemRows;
-use eco_bodies::{Draws, SystemBody, rows_are_recorded_one_by_one};
+use eco_bodies::{BodyRows, Draws, SystemBody, rows_are_recorded_one_by_one};
 use eco_ids::Refusal;
 use eco_stages::Stage;
 use eco_workers::Piece;
@@ -90,11 +90,13 @@ fn record_in_columns<'a, B: SystemBody, D: Draws>(
         (taken_of (B.taken body.now) (take (end - first) (drop first rows.now)))
         (D.so_far draws.old) (D.so_far draws.new) (D.is_dry draws.new)) }
 {
-    rows_are_recorded_one_by_one();
     let mut columns = RowColumns::new(rows);
-    for place in first..end {
+    let mut place = first;
+    while place < end {
         columns.seek(place)?;
-        body.record(&columns.row(), draws, stage)?;
+        let run = columns.run(place, end);
+        body.record_rows(&run, draws, stage)?;
+        place += run.len();
     }
     Ok(())
 }

@@ -1,13 +1,15 @@
 //! The columns in which consecutive rows show their values.
-ghost use Rattle.std.specs.Prelude.{◌≡◌, ◌<◌, ◌≤◌, ◌-◌, ℕ, [], length, map, option_map, slice_get, vec_capacity, vec_len};
+ghost use Rattle.std.specs.Prelude.{◌≡◌, ◌<◌, ◌≤◌, ◌+◌, ◌-◌, ◌^◌, ◌∷◌, ℕ, [], drop, length, map, option_map, slice_get, take};
+ghost use Rattle.std.specs.Prelude.{vec_capacity, vec_len};
 ghost use Rattle.std.specs.Prelude.{IfNone, IfSome, IsTrue, None, OnOk, Some};
 ghost use Rattle.eco_ids.specs.World.{record_of};
 ghost use Rattle.eco_query.specs.Queries.{slot_view};
 ghost use Rattle.eco_systems.specs.Rows.{entry_values, valued_rows};
-ghost use Rattle.eco_frame.specs.Rows.{IsRun, LendsRows, column_row, entities_in, lent_in, run_row, shown_in};
+ghost use Rattle.eco_frame.specs.Rows.{IsRun, LendsRows, column_rows, entities_in, lent_in, lent_rows_from, run_row};
+ghost use Rattle.eco_frame.specs.Rows.{shown_in};
 
 use crate::column::Column;
-use crate::column_row::ColumnRow;
+use crate::column_rows::ColumnRows;
 use crate::system_rows::SystemRows;
 use eco_ids::entity::CHILD_OF;
 use eco_ids::{Entity, Id};
@@ -114,7 +116,8 @@ impl<'a> RowColumns<'a> {
         requires run { IsRun self.now }
         requires place { place < length self.now.rows.now }
         requires own { option_map (λ r. r.entity) (slice_get self.now.rows.now place) ≡ Some entity }
-        ensures { IsTrue result → slice_get self.now.rows.now place ≡ Some (run_row self.now row entity) }
+        ensures stands { IsTrue result → slice_get self.now.entities.now row ≡ Some entity }
+        ensures shows { IsTrue result → slice_get self.now.rows.now place ≡ Some (run_row self.now row entity) }
     {
         match self.entities.get(row) {
             Some(other) => other.is(entity) && self.rows.share_entries(self.place, place),
@@ -190,16 +193,67 @@ impl<'a> RowColumns<'a> {
         self.seek_elsewhere(place)
     }
 
-    /// The row that was sought last.
+    // How many rows from this place to below another stand one after another in the table, where the first was sought, and
+    // share their entries.
     #[inline(always)]
-    pub(crate) fn row(&self) -> ColumnRow<'_>
-        ensures { column_row result ≡ run_row self.now self.now.row self.now.entity }
+    fn run_length(&self, place: usize, end: usize) -> usize
+        requires run { IsRun self.now }
+        requires places { (place < end) × (end ≤ length self.now.rows.now) }
+        ensures few { result ≤ end - place }
+        ensures within { result ≤ length (drop self.now.row self.now.entities.now) }
+        ensures are { lent_rows_from self.now.entries.now self.now.columns.items self.now.row
+            (take result (drop self.now.row self.now.entities.now))
+            ≡ take result (drop place self.now.rows.now) }
     {
-        ColumnRow {
-            entity: self.entity,
+        let most = (end - place).min(self.entities.len().saturating_sub(self.row));
+        let mut count = 0;
+        while count < most
+            && self.show(
+                self.row + count,
+                place + count,
+                self.rows.entity(place + count),
+            )
+        {
+            count += 1;
+        }
+        count
+    }
+
+    // Whose so many rows of the table are, from where the last was sought; its entity alone, where they are none.
+    #[inline(always)]
+    fn entities_of(&self, count: usize) -> &[Entity]
+        requires { count ≤ length (drop self.now.row self.now.entities.now) }
+        ensures none { count ≡ 0 → result.now ≡ self.now.entity ∷ [] }
+        ensures some { 0 < count → result.now ≡ take count (drop self.now.row self.now.entities.now) }
+        ensures fit { self.now.row + length result.now ≤ 2 ^ 64 }
+    {
+        let first = self.row;
+        if count == 0 {
+            std::slice::from_ref(&self.entity)
+        } else {
+            &self.entities[first..first + count]
+        }
+    }
+
+    /// The row of this place, which was sought last, with those behind it to below another place that stand one after another
+    /// in the table, and share their entries.
+    #[inline(always)]
+    pub(crate) fn run(&self, place: usize, end: usize) -> ColumnRows<'_>
+        requires run { IsRun self.now }
+        requires places { (place < end) × (end ≤ length self.now.rows.now) }
+        requires at { slice_get self.now.rows.now place
+            ≡ Some (run_row self.now self.now.row self.now.entity) }
+        ensures some { 0 < length (column_rows result) }
+        ensures few { length (column_rows result) ≤ end - place }
+        ensures are { column_rows result
+            ≡ take (length (column_rows result)) (drop place self.now.rows.now) }
+    {
+        let count = self.run_length(place, end);
+        ColumnRows {
+            entities: self.entities_of(count),
             entries: self.entries,
             columns: &self.columns,
-            row: self.row,
+            first: self.row,
         }
     }
 }

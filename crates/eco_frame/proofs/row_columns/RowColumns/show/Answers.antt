@@ -11,8 +11,13 @@ share_entries-requires-clause-one c =
     ∙ ap (λ e. Some e) (c.is.ensures.exact.0 c.if-is.true) in
     (c.requires.run.shown c.args.row c.args.entity at).there
 
-pub returns-then-is : goal.returns-then-is
-returns-then-is c = λ shared.
+pub returns-then-is-clause-stands : goal.returns-then-is-clause-stands
+returns-then-is-clause-stands c = λ shared.
+    sym (found c.args.self.now.entities.now c.args.row (Some c.in-Some.other) c.in-Some.ensures.lookup)
+    ∙ ap (λ e. Some e) (c.is.ensures.exact.0 c.if-is.true)
+
+pub returns-then-is-clause-shows : goal.returns-then-is-clause-shows
+returns-then-is-clause-shows c = λ shared.
     let run = c.args.self.now in
     let at =
     sym (found run.entities.now c.args.row (Some c.in-Some.other) c.in-Some.ensures.lookup)

@@ -19,5 +19,4 @@ set_sum_of into from i row = set_both row.entity i (item_at row.values into) (it
 -- the same of consecutive rows of two columns, from one on, each of which is an entity's
 abbrev pub set_sums_from : List Value → List Value → Id → ℕ → List Entity → List Command
 set_sums_from one other i row [] = []
-set_sums_from one other i row (e ∷ entities) =
-    set_both e i (slice_get one row) (slice_get other row) ++ set_sums_from one other i (row + 1) entities
+set_sums_from one other i row (e ∷ entities) = set_both e i (slice_get one row) (slice_get other row) ++ set_sums_from one other i (row + 1) entities

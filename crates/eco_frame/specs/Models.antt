@@ -18,8 +18,7 @@ use Rattle.eco_bodies.specs.declared.systems.System.{System}
 -- the system of a body that reads, writes, kills, takes draws and records in these ways
 abbrev pub model_of : {B : Type 0} → (B → List Pattern) → (B → List Pattern) → (B → Bool) → (B → ValuedRow → List Entity → ℕ)
     → (B → ValuedRow → List Entity → List Command) → System B → SystemModel
-model_of reads writes kills taken commands s =
-    system_with s.phase s.query (reads s.body) (writes s.body) (kills s.body) (taken s.body) (commands s.body)
+model_of reads writes kills taken commands s = system_with s.phase s.query (reads s.body) (writes s.body) (kills s.body) (taken s.body) (commands s.body)
 
 -- what is declared is what the system declares
 pub record Declares (s : SystemModel) (d : Declared) : Type 0 where

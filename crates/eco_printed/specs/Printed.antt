@@ -38,8 +38,7 @@ held_line w e i = codes "    " ++ named_id w i ++ value_behind (arity w i) (valu
 
 -- an entity, and its ids
 abbrev pub entity_lines : WorldState → Entity → List ℕ
-entity_lines w e =
-    entity_text e ++ name_behind (own_name w e) ++ arity_behind (arity_of w e) ++ codes "\n"
+entity_lines w e = entity_text e ++ name_behind (own_name w e) ++ arity_behind (arity_of w e) ++ codes "\n"
     ++ flat_map (held_line w e) (map (λ h. h.0) (held_by w e))
 
 -- an id of a table

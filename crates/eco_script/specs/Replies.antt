@@ -72,13 +72,11 @@ AnswersAdded w (Some slots) = Meets (Answers (found (answer w slots)) w) (may_qu
 -- has stages or makes indices known.
 abbrev pub Replies : WorldState → step.WrittenStep → Result Reply Refusal → WorldState → Type 0
 Replies w (step.create name) = Calls (Meets (Creates w name) (may_create w name) w) made
-Replies w (step.component name arity) =
-    Calls (Meets (MakesComponent w (Some name) arity) (may_make_component w (Some name)) w) made
+Replies w (step.component name arity) = Calls (Meets (MakesComponent w (Some name) arity) (may_make_component w (Some name)) w) made
 Replies w (step.change c) = Calls (Changes w c) (λ _. done)
 Replies w (step.has e i) = On (ReadsEntity w e) w (λ x. On (ReadsId w i) w (λ y. Answers (truth (has w x y)) w))
 Replies w (step.get e i) = On (ReadsEntity w e) w (λ x. On (ReadsId w i) w (λ y. Answers (got (shown_value w x y)) w))
-Replies w (step.show e) =
-    On (ReadsEntity w e) w (λ x r new. MatchBool (is_alive w x) (Answers (shown x) w r new) (Refuses NotAlive w r new))
+Replies w (step.show e) = On (ReadsEntity w e) w (λ x r new. MatchBool (is_alive w x) (Answers (shown x) w r new) (Refuses NotAlive w r new))
 Replies w step.list = Meets (Answers (listed (map (λ p. p.0) (living w))) w) true w
 Replies w (step.query text) = On (ReadsQuery w text) w (λ q. Meets (Answers (found (answer w (asked q))) w) (may_query w (asked q)) w)
 Replies w (step.cache text) = On (ReadsQuery w text) w (λ q. Calls (Meets (AddsQuery w (asked q)) true w) (λ id. kept id.0))
@@ -122,8 +120,7 @@ IsWhyStopped s stop new =
 -- a frame of the systems runs by so many workers, to its end or to a stop; systems are as they were
 abbrev pub RunsFrame : ℕ → ScriptState → Result FrameDone FrameStop → ScriptState → Type 0
 RunsFrame workers s x new =
-    IsFrameBy workers s.world (map (λ d. d.system) s.systems) x new.world × IfErr x (λ stop. IsWhyStopped s stop new)
-    × (new.systems ≡ s.systems)
+    IsFrameBy workers s.world (map (λ d. d.system) s.systems) x new.world × IfErr x (λ stop. IsWhyStopped s stop new) × (new.systems ≡ s.systems)
 
 -- memory was wanting before anything was done of it
 abbrev pub StopsAtOnce : ScriptState → Result FrameDone FrameStop → ScriptState → Type 0

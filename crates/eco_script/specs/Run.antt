@@ -22,8 +22,7 @@ IsRunOf workers bytes text world =
 
 -- the bytes are a script, its text was written, and the run that has this text ends with this world
 abbrev pub RanTo : ℕ → Option (List ℕ) → Option (List ℕ) → Option (List ℕ) → WorldState → Type 0
-RanTo workers had old new world =
-    IfSome had (λ bytes. (text : List ℕ) × IsRunOf workers bytes text world × Appends old new text)
+RanTo workers had old new world = IfSome had (λ bytes. (text : List ℕ) × IsRunOf workers bytes text world × Appends old new text)
 
 -- the bytes are no script, and nothing was written
 abbrev pub WasNotRead : Option (List ℕ) → Option (List ℕ) → Option (List ℕ) → Type 0

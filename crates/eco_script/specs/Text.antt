@@ -38,8 +38,7 @@ command_lines k (o ∷ os) = command_line k o ++ command_lines (k + 1) os
 
 -- the lines of a frame: how many batches and how many commands it had, and those of its commands
 abbrev pub framed_lines : FrameDone → List ℕ
-framed_lines r =
-    codes "ok " ++ decimal r.batches ++ codes " " ++ decimal (length r.outcomes) ++ codes "\n" ++ command_lines 0 r.outcomes
+framed_lines r = codes "ok " ++ decimal r.batches ++ codes " " ++ decimal (length r.outcomes) ++ codes "\n" ++ command_lines 0 r.outcomes
 
 -- the line of a frame that stopped: how many batches were merged, and why it stopped
 abbrev pub stopped_line : FrameStop → List ℕ

@@ -44,6 +44,10 @@ stands ids x k at = λ d.
     let is : get_or ids k d ≡ x = same_Some _ _ (sym (slice_get-get_or ids k d (slice_get_within ids k x at)) ∙ at) in
     ap (λ y. id_cmp y x) is ∙ is_equal (id_cmp x x) (id_eq_itself x)
 
+-- who stands at a place is there
+pub there_at : (ids : List Id) (x : Id) (k : ℕ) → slice_get ids k ≡ Some x → has_item id_cmp ids x ≡ true
+there_at ids x k at = has_at id_cmp_total ids x k (slice_get_within ids k x at) (stands ids x k at)
+
 -- two types that differ at one place alone: there one has the first id, and the other the second
 module _ (own other : List Id) (i j : Id) (k : ℕ) (up : IsTrue (is_ascending id_cmp own)) (up' : IsTrue (is_ascending id_cmp other))
     (here : slice_get own k ≡ Some i) (there : slice_get other k ≡ Some j)

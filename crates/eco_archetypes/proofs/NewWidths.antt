@@ -15,8 +15,8 @@ matches_exactly (id.Two r t) (id.One x) = refl
 matches_exactly (id.Two r t) (id.Two s u) = parts_are_same r t s u
 
 -- a type with an id has one that only it matches
-any_has : (ids : List Id) (i : Id) → any_matches ids (exactly i) ≡ has_item id_cmp ids i
-any_has ids i = ap (λ (t : Id → Bool). list_any t ids) (λ t j. (matches_exactly i j ∙ id_eq_sym i j) t)
+pub has_exactly : (ids : List Id) (i : Id) → any_matches ids (exactly i) ≡ has_item id_cmp ids i
+has_exactly ids i = ap (λ (t : Id → Bool). list_any t ids) (λ t j. (matches_exactly i j ∙ id_eq_sym i j) t)
 
 paired_has : (ids : List Id) (ws : List ℕ) (i : Id) (k : ℕ) → find id_cmp i (paired ids ws) ≡ Some k → IsTrue (has_item id_cmp ids i)
 paired_has [] ws i k e = absurd (cc)
@@ -36,7 +36,7 @@ listed_has s n i = by (slot_of s n)
     by : (o : Option TableState) → type_matches (option_map (λ (t : TableState). t.ids) o) (exactly i) ≡ true
         → IsSome o × IsTrue (has_item id_cmp (unwrap_or o no_table).ids i)
     by None h = absurd (true≢false (sym h))
-    by (Some t) h = (refl, sym (any_has t.ids i) ∙ h)
+    by (Some t) h = (refl, sym (has_exactly t.ids i) ∙ h)
 
 width_listed : (s : List (Option TableState)) (n : ℕ) (i : Id) (k : ℕ) → width_in (table_in s n) i ≡ Some k
     → type_matches (type_at s n) (exactly i) ≡ true
@@ -45,7 +45,7 @@ width_listed s n i k = by (slot_of s n)
     by : (o : Option TableState) → width_in (unwrap_or o no_table) i ≡ Some k
         → type_matches (option_map (λ (t : TableState). t.ids) o) (exactly i) ≡ true
     by None h = absurd (cc)
-    by (Some t) h = any_has t.ids i ∙ paired_has t.ids t.widths i k h
+    by (Some t) h = has_exactly t.ids i ∙ paired_has t.ids t.widths i k h
 
 -- as wide as in a table that has the id
 pub width_as : (need : Id → ℕ) (s : List (Option TableState)) (n : ℕ) (i : Id) (w : ℕ) → AreAgreed s → w ≤ FIELD_COUNT

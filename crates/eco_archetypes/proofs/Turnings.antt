@@ -2,7 +2,8 @@
 use Rattle.eco_archetypes.proofs.Common.{◌≡◌, ◌≢◌, ℕ, ◌==◌, Bool, true, false, true≢false, cond, not, ◌&&◌, ◌||◌}
 use Rattle.eco_archetypes.proofs.Common.{if◌then◌else◌, List, [], ◌∷◌, map, Option, Some, None, option_map, unwrap_or, IsSome, IsTrue, Result, Ok}
 use Rattle.eco_archetypes.proofs.Common.{Err, IfOk, nat_eq, Less, Equal, Greater, refl, sym, ap, ◌∙◌, ◌≤◌, ◌⊎◌, inl, inr, HashMap, Updates}
-use Rattle.eco_archetypes.proofs.Common.{get, lookup, find, by_order, cases_eq, same_Some, Decides-eqb, Id, Pattern, id_cmp, id_eq, has_item, is_ascending}
+use Rattle.eco_archetypes.proofs.Common.{get, lookup, exactly, find, by_order, cases_eq, same_Some}
+use Rattle.eco_archetypes.proofs.Common.{Decides-eqb, Id, Pattern, id_cmp, id_eq, has_item, is_ascending}
 use Rattle.eco_archetypes.proofs.Common.{with_item, without_item, id_eq_sym, equal_tie, or_right, id_cmp_total, same_id, joins_with, leaves_without, TableState}
 use Rattle.eco_archetypes.proofs.Common.{paired, width_in, slot_of, table_in, no_table, turned, SetsSlot, Cuts, Lists, any_matches, matches_id, is_own, Turns}
 use Rattle.eco_archetypes.proofs.Common.{ListsSame, AreTold, Cache, same_ids, IsTypeMap, LeadAlike, LeadsGrown, TakesGrown, lost_again, graph_cut, type_at}
@@ -10,6 +11,7 @@ use Rattle.eco_archetypes.proofs.Common.{type_matches, IsArchetypes, IsIdIndex, 
 use Rattle.eco_ids.specs.OrderLaws.{id_ties}
 use Rattle.eco_ids.proofs.SameIds.{id_eq-Decides, same_ids-Decides}
 use Rattle.eco_archetypes.proofs.ArchetypeLemmas.{index_turned}
+use Rattle.eco_archetypes.proofs.NewWidths.{has_exactly}
 use Rattle.eco_archetypes.proofs.Widths.{kept_agreed, kept_widths, same_kept}
 
 way : (b : Bool) (P : Type 0) → (b ≡ true → P) → (b ≡ false → P) → P
@@ -212,6 +214,18 @@ wide_lost t i wide j has other =
 pub gone_lost : (ids : List Id) (i : Id) → has_item id_cmp (without_item id_cmp ids i) i ≡ false
 gone_lost ids i =
     leaves_without id_cmp_total ids i i ∙ ap (λ b. not b && has_item id_cmp ids i) (sym (id_ties i i) ∙ (id_eq-Decides i i).1 refl)
+
+-- who has just what is left of a type has another of its ids, which no other type than that has
+pub alone_without : (s : List (Option TableState)) (l : Lists) (slot : ℕ) (i j : Id) (ids : List Id) → IsIdIndex (type_at s) l
+    → type_at s slot ≡ Some ids → has_item id_cmp ids i ≡ true → has_item id_cmp ids j ≡ true → id_eq j i ≡ false
+    → ((n : ℕ) → l (exactly j) n ≡ true → n ≡ slot) → (n : ℕ) → type_at s n ≢ Some (without_item id_cmp ids i)
+alone_without s l slot i j ids index had has there other alone n is =
+    let less = without_item id_cmp ids i in
+    let kept : has_item id_cmp less j ≡ true =
+    leaves_without id_cmp_total ids i j ∙ ap (λ b. not b && has_item id_cmp ids j) (id_eq_sym i j ∙ other) ∙ there in
+    let listed : l (exactly j) n ≡ true = index (exactly j) n ∙ ap (λ o. type_matches o (exactly j)) is ∙ has_exactly less j ∙ kept in
+    let same : ids ≡ less = same_Some ids less (sym had ∙ ap (type_at s) (sym (alone n listed)) ∙ is) in
+    true≢false (sym has ∙ ap (λ xs. has_item id_cmp xs i) same ∙ gone_lost ids i)
 
 pub covers_slots : (s s' : List (Option TableState)) → SameSlots s s' → KeepsWidths s s'
 covers_slots s s' same = kept_widths s s' (same_kept s s' same)

@@ -11,11 +11,6 @@ use Rattle.eco_cleanup.proofs.Deaths.{one_is, one_itself}
 use Rattle.eco_cleanup.proofs.Planned.{ids_standing}
 use Rattle.eco_cleanup.proofs.Standing.{any_id, found_at, has_at, row_of, stands_among, stands_with}
 
--- what was found so far, as a list
-abbrev pub listed : Option Id → List Id
-listed None = []
-listed (Some i) = i ∷ []
-
 -- ---- the ids of a list that pass a test
 
 passed : (test : Id → Bool) (ids : List Id) (j : Id) → has_item id_cmp (filter test ids) j ≡ (test j && has_item id_cmp ids j)

@@ -12,6 +12,7 @@ use crate::role::names_on;
 use crate::ties::Ties;
 use eco_ids::entity::PANIC;
 use eco_ids::{Entity, Id, Part, Pattern};
+use eco_index::only_named;
 use std::alloc::{AllocError, Global};
 
 /// An entity, the only other one that has an id which names it, and that id, the only one.
@@ -72,7 +73,7 @@ impl Ties<'_> {
             return None;
         };
         let table = self.table(slot)?;
-        let id = only_name(table.type_list().as_slice(), member)?;
+        let id = only_named(table.type_list(), member)?;
         let rows = table.rows();
         if rows.len() != 1 || rows[0].is(member) || names_on(self.places, PANIC, member, id) {
             return None;
@@ -82,34 +83,5 @@ impl Ties<'_> {
             holder: rows[0],
             id,
         })
-    }
-}
-
-// The only one of the ids that names the entity, if one does and no other.
-fn only_name(ids: &[Id], entity: Entity) -> Option<Id>
-    ensures { IfSome result (λ i. filter (λ j. names_entity j entity) ids.now ≡ i ∷ []) }
-{
-    let mut only = None;
-    for id in ids {
-        if may_name(*id, entity) && id.names(entity) {
-            if only.is_some() {
-                return None;
-            }
-            only = Some(*id);
-        }
-    }
-    only
-}
-
-// Whether one that the id is made of has the entity's index. Few have, so few ids have to be compared whole.
-#[inline(always)]
-fn may_name(id: Id, entity: Entity) -> bool
-    ensures { IsTrue (names_entity id entity) → IsTrue result }
-{
-    match id {
-        Id::One(own) => own.index == entity.index,
-        Id::Two(relationship, target) => {
-            relationship.index == entity.index || target.index == entity.index
-        }
     }
 }

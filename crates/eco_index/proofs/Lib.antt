@@ -6,6 +6,7 @@ pub mod Joinings
 pub mod Keys
 pub mod Listings
 pub mod Named
+pub mod PassedOver
 mod Places
 pub mod SlotEdges
 pub mod SlotLists

@@ -1,7 +1,8 @@
 -- The map from types to slots after a table was put in or taken out.
 use Rattle.eco_index.proofs.Common.{◌≡◌, ◌≢◌, ℕ, ◌==◌, Bool, true, false, cond, List, Option, Some, None, IsSome, IsTrue, is_some, refl, ap}
 use Rattle.eco_index.proofs.Common.{◌∙◌, sym, true≢false, IfSome, option_map, slice_get, IsEquivalence, HashMap, IsUnique, Updates, get, values}
-use Rattle.eco_index.proofs.Common.{slice_get-map, Decides-eqb, Id, id_cmp, has_item, with_item, LeadAlike, LeadsAlone, same_ids, IsTypeMap, same_ids-Decides}
+use Rattle.eco_index.proofs.Common.{slice_get-map, Decides-eqb, Id, id_cmp, has_item, with_item}
+use Rattle.eco_index.proofs.Common.{without_item, LeadAlike, LeadsAlone, same_ids, IsTypeMap, same_ids-Decides}
 use Rattle.std.specs.Cmp.Lexicographic.{lists_equiv}
 use Rattle.std.proofs.lemmas.Map.Entries.{hash_map_get_place}
 use Rattle.eco_index.proofs.EdgeLists.{way}
@@ -125,13 +126,12 @@ module _ {S : Type 0} (m m1 : HashMap (List Id) ℕ S) (t : List Id) where
         by false e None none = refl
         by false e (Some k) none = absurd (true≢false none)
 
--- what stands at a place has another type
-pub type_map-rename : {S : Type 0} (m m1 m' : HashMap (List Id) ℕ S) (place n : ℕ) (new : List Id) (gone : Option (List Id × ℕ)) → IsUnique same_ids m
-    → slice_get (values m) place ≡ Some n → gone ≡ slice_get m.entries place → IfSome gone (λ p. Updates same_ids m m1 p.0 None)
-    → Updates same_ids m1 m' new (Some n) → (old : List Id) → LeadsAlone m old n → (q : List Id)
-    → get same_ids m' q ≡ cond (same_ids new q) (Some n) (cond (same_ids old q) None (get same_ids m q))
-type_map-rename m m1 m' place n new None unique there at removed put old alone q =
-    absurd (let bad : ◌≡◌ {A = Option ℕ} None (Some n) = ap (option_map (λ p. p.1)) at ∙ sym (slice_get-map (λ p. p.1) m.entries place) ∙ there in cc)
-type_map-rename m m1 m' place n new (Some p) unique there at removed put old alone q =
-    put.0 q ∙ ap (cond (same_ids new q) (Some n)) (removed.0 q
-    ∙ ap (λ t. cond (same_ids t q) None (get same_ids m q)) (alone p.0 (led_at m place n p unique there at)))
+-- a type that was taken out comes back without an id
+pub type_map-shorten : {S : Type 0} (m m1 m' : HashMap (List Id) ℕ S) (t new : List Id) (n : ℕ) (i : Id) → get same_ids m t ≡ Some n
+    → Updates same_ids m m1 t None → new ≡ without_item id_cmp t i → Updates same_ids m1 m' new (Some n) → (old : List Id) → LeadsAlone m old n
+    → (q : List Id)
+    → get same_ids m' q ≡ cond (same_ids (without_item id_cmp old i) q) (Some n) (cond (same_ids old q) None (get same_ids m q))
+type_map-shorten m m1 m' t new n i led taken is put old alone q =
+    put.0 q ∙ ap (cond (same_ids new q) (Some n)) (taken.0 q)
+    ∙ ap (λ xs. cond (same_ids xs q) (Some n) (cond (same_ids t q) None (get same_ids m q))) is
+    ∙ ap (λ xs. cond (same_ids (without_item id_cmp xs i) q) (Some n) (cond (same_ids xs q) None (get same_ids m q))) (alone t led)

@@ -5,7 +5,7 @@ use Rattle.eco_ids.specs.declared.pattern.Pattern.TheVariants.{One, Two}
 use Rattle.eco_ids.specs.Matching.{pattern_matches}
 use Rattle.eco_index.specs.TypeTests.{type_names, AreNeeded, each_alone, group_at, matches_each, type_matches_one, naming}
 use Rattle.eco_index.proofs.Keys.{and_true, or_false}
-use Rattle.eco_ids.proofs.Facts.{entity_eq_sym}
+use Rattle.eco_ids.proofs.Facts.{entity_eq_sym, neither}
 use Rattle.eco_ids.specs.declared.id.Id.TheVariants as id
 
 one_pattern : (p : Pattern) (ids : List Id) → type_matches_one (p ∷ []) ids ≡ list_any (pattern_matches p) ids
@@ -42,6 +42,13 @@ names_match e (i ∷ ids) =
     shuffled (pattern_matches (One e) i) (pattern_matches (Two (Is e) Any) i) (pattern_matches (Two Any (Is e)) i)
     (any_matches ids (One e)) (any_matches ids (Two (Is e) Any)) (any_matches ids (Two Any (Is e)))
     ∙ (λ k. sym (name_matches e i) k || names_match e ids k)
+
+-- whom no id names, no pattern of his matches
+pub nobody_matched : (e : Entity) (ids : List Id) → type_names ids e ≡ false
+    → (any_matches ids (One e) ≡ false) × (any_matches ids (Two Any (Is e)) ≡ false)
+nobody_matched e ids none =
+    let parts = neither _ _ (names_match e ids ∙ none) in
+    (parts.0, (neither _ _ (neither _ _ parts.1).1).0)
 
 -- each pattern of a test of them all is needed
 pub each_needed : (ps : List Pattern) → AreNeeded (matches_each ps) (each_alone ps)

@@ -1,5 +1,6 @@
 pub mod IdIndex
 pub mod Marks
+pub mod TypeNames
 pub mod TypeTests
 pub mod TypeMap
 pub mod Edges

@@ -1,10 +1,10 @@
 //! For each pattern, the slots of the tables whose types have an id that it matches.
-ghost use Rattle.std.specs.Prelude.{◌≡◌, ◌<◌, ◌≤◌, ℕ, Some, None, true, false, nat_eq};
+ghost use Rattle.std.specs.Prelude.{◌≡◌, ◌↔◌, ◌<◌, ◌≤◌, ℕ, Some, None, IsTrue, true, false, nat_eq};
 ghost use Rattle.std.specs.Prelude.{not, slice_get, take, IfOk, OnOk, OnErr, IfSome, IfNone};
 ghost use Rattle.std.specs.Option.{option_copied, option_map};
 ghost use Rattle.std.specs.HashMap.{get, Updates};
 ghost use Rattle.indexmap.specs.IndexMap.{index_map_len};
-ghost use Rattle.std.specs.List.{list_any, IsDistinct};
+ghost use Rattle.std.specs.List.{list_all, list_any, IsDistinct};
 ghost use Rattle.eco_ids.specs.Matching.{pattern_matches};
 ghost use Rattle.eco_ids.specs.declared.pattern.Pattern.{Pattern as Patterns};
 ghost use Rattle.eco_ids.specs.declared.id.Id.TheVariants.{Two};
@@ -93,12 +93,27 @@ impl IdIndex {
         ensures listed { IfSome result (λ n. lists_in self.now (exactly id) n ≡ true) }
         ensures none { IfNone result ((n : ℕ) → lists_in self.now (exactly id) n ≡ false) }
     {
-        // The key is named by its kind, so that the look at its mark needs no choice among kinds.
-        let slots = match id {
+        self.own(id).first().copied()
+    }
+
+    // The slots that are listed under the id, each once. The key is named by its kind, so that the look at its mark needs no
+    // choice among kinds.
+    #[inline(always)]
+    fn own(&self, id: Id) -> &[TableSlot]
+        ensures listed { (n : ℕ) → list_any (nat_eq n) result.now ≡ lists_in self.now (exactly id) n }
+        ensures distinct { IsDistinct nat_eq result.now }
+    {
+        match id {
             Id::One(entity) => self.listed(Key::Single(entity)),
             Id::Two(relationship, target) => self.listed(Key::Pair(relationship, target)),
-        };
-        slots.first().copied()
+        }
+    }
+
+    /// Whether no other slot than this one is listed under the id.
+    pub fn is_alone(&self, id: Id, slot: TableSlot) -> bool
+        ensures { IsTrue result ↔ ((n : ℕ) → lists_in self.now (exactly id) n ≡ true → n ≡ slot) }
+    {
+        are_only(self.own(id), slot)
     }
 
     // The slots that are listed under the key, if there are any. Most entities are in no type, so mostly the marks tell.
@@ -341,6 +356,13 @@ impl IdIndex {
             before = Some(*id);
         }
     }
+}
+
+// Whether all of them are this slot.
+fn are_only(slots: &[TableSlot], slot: TableSlot) -> bool
+    ensures { result ≡ list_all (nat_eq slot) slots.now }
+{
+    slots.iter().all(|own| slot == *own)
 }
 
 // The keys of the patterns that match a pair.

@@ -11,6 +11,7 @@ mod id_index;
 mod occupancy;
 mod seed;
 mod type_map;
+mod type_names;
 mod type_test;
 
 pub use edges::Edges;
@@ -18,4 +19,5 @@ pub use id_index::IdIndex;
 pub use occupancy::Occupancy;
 pub use seed::Seed;
 pub use type_map::TypeMap;
+pub use type_names::{is_named_in, only_named};
 pub use type_test::{AllOf, NamingTest, TypeTest};

@@ -3,7 +3,7 @@ ghost use Rattle.std.specs.Prelude.{◌≡◌, ◌<◌, ◌≤◌, cond, false, 
 ghost use Rattle.std.specs.HashMap.{IsEmpty, IsUnchanged, Updates, get, spare, values};
 ghost use Rattle.eco_ids.specs.declared.id.Id.{Id as Ids};
 ghost use Rattle.eco_index.specs.Sweeping.{kept_if};
-ghost use Rattle.eco_ids.specs.Order.{id_cmp, has_item};
+ghost use Rattle.eco_ids.specs.Order.{id_cmp, has_item, without_item};
 ghost use Rattle.eco_index.specs.TypeMap.{LeadAlike, LeadsAlone, LeadsGrown, TakesGrown, same_ids};
 
 use crate::occupancy::Occupancy;
@@ -183,17 +183,19 @@ impl TypeMap {
         Ok(Some(type_list))
     }
 
-    /// The slot of the type at a place has another type from now on. It takes no memory.
-    pub fn rename_at(&mut self, place: usize, new: TypeList, slot: TableSlot)
+    /// The type at a place, which leads to the slot, has the id no more. It takes no memory.
+    pub fn shorten_at(&mut self, place: usize, id: Id, slot: TableSlot)
         requires room { 0 < spare (slots_by_type self.old) }
         requires there { slice_get (values (slots_by_type self.old)) place ≡ Some slot }
         ensures { (old : List Ids) → LeadsAlone (slots_by_type self.old) old slot → (t : List Ids)
-            → get same_ids (slots_by_type self.new) t ≡ cond (same_ids new t) (Some slot)
+            → get same_ids (slots_by_type self.new) t
+            ≡ cond (same_ids (without_item id_cmp old id) t) (Some slot)
             (cond (same_ids old t) None (get same_ids (slots_by_type self.old) t)) }
     {
         // No two types are equal, as the length says.
         let _count = self.slots.len();
-        let _ = self.take_at(place);
-        self.insert_reserved(new, slot);
+        let (mut type_list, _) = self.take_at(place).unwrap();
+        type_list.remove(id);
+        self.insert_reserved(type_list, slot);
     }
 }

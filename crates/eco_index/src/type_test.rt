@@ -7,6 +7,7 @@ ghost use Rattle.eco_ids.specs.declared.id.Id.{Id as Ids};
 ghost use Rattle.eco_ids.specs.declared.pattern.Pattern.{Pattern as Patterns};
 ghost use Rattle.eco_index.specs.TypeTests.{type_names, AreNeeded, IsPlace, each_alone, group_at, matches_each, type_matches_one, naming};
 
+use crate::type_names::is_named_in;
 use eco_ids::{Entity, Part, Pattern, TypeList};
 use eco_query::Query;
 
@@ -115,7 +116,7 @@ impl TypeTest for NamingTest {
     }
 
     fn passes(&self, type_list: &TypeList) -> bool {
-        type_list.as_slice().iter().any(|id| id.names(self.entity))
+        is_named_in(type_list, self.entity)
     }
 
     fn passes_found(&self, _group: usize, _type_list: &TypeList) -> bool {

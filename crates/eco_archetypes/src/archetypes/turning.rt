@@ -1,9 +1,9 @@
 //! A table of one row takes the type of its next step where it stands: to make a table of that type, and to drop this one,
 //! would cost as much as the type has ids.
-ghost use Rattle.std.specs.Prelude.{◌≡◌, ◌≢◌, ◌<◌, ◌≤◌, ℕ, length, Some, IsSome, IsFalse, true, false, IfOk, OnOk, OnErr};
+ghost use Rattle.std.specs.Prelude.{◌≡◌, ◌≢◌, ◌<◌, ◌≤◌, ℕ, length, Some, IsSome, IsFalse, true, false, IfOk, IfSome, IsTrue, OnOk, OnErr};
 ghost use Rattle.std.specs.HashMap.{IsUnchanged, spare};
 ghost use Rattle.eco_ids.specs.declared.value.TheConstants.{FIELD_COUNT};
-ghost use Rattle.eco_ids.specs.Order.{id_cmp, has_item, with_item, without_item};
+ghost use Rattle.eco_ids.specs.Order.{id_cmp, id_eq, has_item, with_item, without_item};
 ghost use Rattle.eco_tables.specs.Tables.{slot_of, table_in};
 ghost use Rattle.eco_index.specs.Edges.{toggled};
 ghost use Rattle.eco_caches.specs.Caching.{HaveRoom, StayExact};
@@ -122,33 +122,63 @@ impl Archetypes {
         ensures err { OnErr result (SameSlots self.old self.new) }
         ensures widths { KeepsWidths self.old self.new }
     {
-        let type_list = type_in(&self.tables, slot).without(id)?;
-        if self.find(&type_list).is_some() {
-            return Ok(false);
+        if !self.is_first_without(slot, id) {
+            let type_list = type_in(&self.tables, slot).without(id)?;
+            if self.find(&type_list).is_some() {
+                return Ok(false);
+            }
         }
-        self.turn(slot, id, type_list)?;
+        self.turn(slot, id)?;
         Ok(true)
     }
 
-    // The table takes the type that has the id less, which is this, and which no table has.
-    fn turn(&mut self, slot: TableSlot, id: Id, type_list: TypeList) -> Result<(), AllocError>
+    // Whether another id of the type is in no other type. Then none has just what is left without the id, and no list has to be
+    // made to look for one. Of the others the last is asked, since what was made last is in the fewest types.
+    fn is_first_without(&self, slot: TableSlot, id: Id) -> bool
+        requires there { IsSome (slot_of self.now slot) }
+        requires has { has_item id_cmp (table_in self.now slot).ids id ≡ true }
+        ensures { IsTrue result → (n : ℕ)
+            → type_at self.now n ≢ Some (without_item id_cmp (table_in self.now slot).ids id) }
+    {
+        match last_other(type_in(&self.tables, slot).as_slice(), id) {
+            Some(other) => self.by_id.is_alone(other, slot),
+            None => false,
+        }
+    }
+
+    // The table takes the type that has the id less, which no table has.
+    fn turn(&mut self, slot: TableSlot, id: Id) -> Result<(), AllocError>
         requires there { IsSome (slot_of self.old slot) }
         requires has { has_item id_cmp (table_in self.old slot).ids id ≡ true }
-        requires typed { type_list ≡ without_item id_cmp (table_in self.old slot).ids id }
-        requires absent { (n : ℕ) → type_at self.old n ≢ Some type_list }
-        ensures ok { OnOk result (TakesType self.old self.new slot type_list) }
+        requires absent { (n : ℕ)
+            → type_at self.old n ≢ Some (without_item id_cmp (table_in self.old slot).ids id) }
+        ensures ok { OnOk result
+            (TakesType self.old self.new slot (without_item id_cmp (table_in self.old slot).ids id)) }
         ensures err { OnErr result (SameSlots self.old self.new) }
         ensures widths { KeepsWidths self.old self.new }
     {
         make_ready(&mut self.by_type, &mut self.caches, slot)?;
-        let old = type_in(&self.tables, slot);
-        let place = self.by_type.place_of(old, slot);
+        let place = self.by_type.place_of(type_in(&self.tables, slot), slot);
+        self.by_type.shorten_at(place, id, slot);
         lose(&mut self.tables, &mut self.by_id, slot, id);
-        self.caches.tell(slot, &type_list);
-        self.by_type.rename_at(place, type_list, slot);
+        self.caches.tell(slot, type_in(&self.tables, slot));
         self.edges.cut(slot);
         Ok(())
     }
+}
+
+// The last of the ids that is not this one, where that is the last or the one before it.
+fn last_other(ids: &[Id], id: Id) -> Option<Id>
+    ensures there { IfSome result (λ i. has_item id_cmp ids.now i ≡ true) }
+    ensures other { IfSome result (λ i. id_eq i id ≡ false) }
+{
+    let last = *ids.last()?;
+    if !last.is(id) {
+        return Some(last);
+    }
+    let before = ids.len().checked_sub(2)?;
+    let second = *ids.get(before)?;
+    if second.is(id) { None } else { Some(second) }
 }
 
 // Room for what comes when the type of a slot changes, as `reserve_one` makes it, and the slot's places are noted.
@@ -187,7 +217,7 @@ fn gain(
     tables.get(slot).unwrap().ids_have_widths();
     by_id.join(alloc, id, slot)?;
     if let Err(refused) = tables.gain(slot, id, width) {
-        by_id.leave(id, type_in(tables, slot).as_slice(), slot);
+        by_id.leave(id, type_in(tables, slot), slot);
         return Err(refused);
     }
     Ok(())
@@ -206,5 +236,5 @@ fn lose(tables: &mut Tables, by_id: &mut IdIndex, slot: TableSlot, id: Id)
 {
     tables.get(slot).unwrap().ids_have_widths();
     tables.lose(slot, id);
-    by_id.leave(id, type_in(tables, slot).as_slice(), slot);
+    by_id.leave(id, type_in(tables, slot), slot);
 }

@@ -1,13 +1,13 @@
 //! A table's slot comes to the lists of an id that its type gains, or goes from those of one that it loses.
 ghost use Rattle.std.specs.Prelude.{◌≡◌, true, false, OnOk, OnErr};
-ghost use Rattle.eco_ids.specs.declared.id.Id.TheVariants.{Two};
-ghost use Rattle.eco_index.specs.declared.id_index.key.Key.TheVariants.{Target};
+ghost use Rattle.eco_ids.specs.declared.id.Id.TheVariants.{One, Two};
 ghost use Rattle.eco_index.specs.IdIndex.{ListsSame, Turns, has_one, has_own, is_own};
 ghost use Rattle.eco_index.specs.IdIndex.{any_matches, keys_of, matches_id, pattern_of};
 
 use crate::id_index::key::Key;
 use crate::id_index::{IdIndex, keys_of_pair};
-use eco_ids::{Entity, Id, Pattern, TableSlot};
+use crate::type_names::is_named_in;
+use eco_ids::{Entity, Id, Pattern, TableSlot, TypeList};
 use std::alloc::{AllocError, Global};
 
 impl IdIndex {
@@ -48,35 +48,51 @@ impl IdIndex {
 
     /// Takes a table's slot off the lists of all patterns that match the id and none of these others, which its type keeps.
     /// It takes no memory.
-    pub fn leave(&mut self, id: Id, others: &[Id], slot: TableSlot)
+    pub fn leave(&mut self, id: Id, others: &TypeList, slot: TableSlot)
         ensures { Turns false (is_own id others.now)
             (lists_in self.old) (lists_in self.new) slot }
     {
         match id {
-            Id::One(entity) => self.leave_keys(&[Key::Single(entity)], others, slot),
+            Id::One(entity) => self.leave_single(entity, others, slot),
             Id::Two(relationship, target) => {
                 self.leave_pair(relationship, target, others, slot);
             }
         }
     }
 
-    // Takes the slot off the lists of a pair. Where no other pair has its target, none is the pair, so mostly the others are
-    // gone over once for both.
-    fn leave_pair(&mut self, relationship: Entity, target: Entity, others: &[Id], slot: TableSlot)
+    // Takes the slot off the list of a single.
+    fn leave_single(&mut self, entity: Entity, others: &TypeList, slot: TableSlot)
+        ensures { Turns false (has_own (keys_of (One entity)) others.now)
+            (lists_in self.old) (lists_in self.new) slot }
+    {
+        if is_named_in(others, entity) {
+            self.leave_keys(&[Key::Single(entity)], others.as_slice(), slot);
+        } else {
+            self.take(Key::Single(entity), slot);
+        }
+    }
+
+    // Takes the slot off the lists of a pair. Where no other id names its target, none is the pair or has the target, so mostly
+    // the others are gone over for neither.
+    fn leave_pair(
+        &mut self,
+        relationship: Entity,
+        target: Entity,
+        others: &TypeList,
+        slot: TableSlot,
+    )
         ensures { Turns false (has_own (keys_of (Two relationship target)) others.now)
             (lists_in self.old) (lists_in self.new) slot }
     {
-        if has_target(others, target) {
-            self.leave_keys(&keys_of_pair(relationship, target), others, slot);
+        if is_named_in(others, target) {
+            let keys = keys_of_pair(relationship, target);
+            self.leave_keys(&keys, others.as_slice(), slot);
             return;
         }
         self.take(Key::Pair(relationship, target), slot);
         self.take(Key::Target(target), slot);
-        self.leave_keys(
-            &[Key::Relationship(relationship), Key::AnyPair],
-            others,
-            slot,
-        );
+        let keys = [Key::Relationship(relationship), Key::AnyPair];
+        self.leave_keys(&keys, others.as_slice(), slot);
     }
 
     fn leave_keys(&mut self, keys: &[Key], others: &[Id], slot: TableSlot)
@@ -96,22 +112,4 @@ fn is_matched(ids: &[Id], pattern: Pattern) -> bool
     ensures { result ≡ any_matches ids.now pattern }
 {
     ids.iter().any(|id| pattern.matches(*id))
-}
-
-// Whether one of the ids is a pair with this target.
-fn has_target(ids: &[Id], target: Entity) -> bool
-    ensures { result ≡ any_matches ids.now (pattern_of (Target target)) }
-{
-    ids.iter().any(|id| is_pair_with(*id, target))
-}
-
-// Whether the id is a pair with this target.
-#[inline(always)]
-fn is_pair_with(id: Id, target: Entity) -> bool
-    ensures { result ≡ matches_id id (pattern_of (Target target)) }
-{
-    match id {
-        Id::One(_) => false,
-        Id::Two(_, own) => target.is(own),
-    }
 }

@@ -14,8 +14,8 @@ returns-in-Err-clause-index c =
     let l2 = lists_of c.leave.new.self.slots in
     let had = type_there s n c.requires.there in
     let same : SameSlots s s1 = kept_slots s s1 n c.in-Err.ensures.err in
-    let own : c.as_slice.result.now ≡ ids =
-    c.as_slice.ensures.ids ∙ same_Some _ _ (sym c.type_in.ensures.typed ∙ ap (option_map (λ (t : TableState). t.ids)) (same n) ∙ had) in
+    let own : c.type_in.result.now ≡ ids =
+    same_Some _ _ (sym c.type_in.ensures.typed ∙ ap (option_map (λ (t : TableState). t.ids)) (same n) ∙ had) in
     index_back s s1 (lists_of c.args.by_id.now.slots) l1 l2 n c.args.id ids c.requires.index had same c.in_ok-join.ensures.ok
     (subst (λ xs. Turns false (is_own c.args.id xs) l1 l2 n) own c.leave.ensures)
 

@@ -14,7 +14,7 @@ returns-clause-index c =
     let l = lists_of c.args.by_id.now.slots in
     let l1 = lists_of c.leave.new.self.slots in
     let has : type_at s1 n ≡ Some (without_item id_cmp ids i) = ap (option_map (λ (t : TableState). t.ids)) c.lose.ensures.changed in
-    let left : c.as_slice.result.now ≡ without_item id_cmp ids i = c.as_slice.ensures.ids ∙ same_Some _ _ (sym c.type_in.ensures.typed ∙ has) in
+    let left : c.type_in.result.now ≡ without_item id_cmp ids i = same_Some _ _ (sym c.type_in.ensures.typed ∙ has) in
     index_lost s s1 l l1 n i ids c.requires.index (type_there s n c.requires.there) c.lose.ensures.others c.requires.has has
     (subst (λ xs. Turns false (is_own i xs) l l1 n) left c.leave.ensures)
 

@@ -7,7 +7,7 @@ pub returns-in-One : goal.returns-in-One
 returns-in-One c =
     let i = One c.in-One.entity in
     rw c.in-One.is (turns_as false (has_own (keys_of i) c.args.others.now) (is_own i c.args.others.now) (lists_of c.args.self.now.slots)
-    (lists_of c.leave_keys.new.self.slots) c.args.slot (own_id i c.args.others.now) c.leave_keys.ensures)
+    (lists_of c.leave_single.new.self.slots) c.args.slot (own_id i c.args.others.now) c.leave_single.ensures)
 
 pub returns-in-Two : goal.returns-in-Two
 returns-in-Two c =

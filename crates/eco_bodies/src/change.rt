@@ -2,7 +2,6 @@
 ghost use Rattle.std.specs.Prelude.{◌≡◌, ◌++◌, ◌∷◌, [], false, flat_map, option_to_list, IfErr, IfOk, List};
 ghost use Rattle.std.specs.Prelude.{OnOk, Some};
 ghost use Rattle.eco_ids.specs.declared.entity.Entity.{Entity as EntityData};
-ghost use Rattle.eco_ids.specs.declared.refusal.Refusal.TheVariants.{OutOfMemory};
 ghost use Rattle.eco_systems.specs.Systems.{matches_one};
 ghost use Rattle.eco_bodies.specs.Lent.{item_at};
 ghost use Rattle.eco_bodies.specs.Scripts.{action_commands, change_by_action, set_of, spawned, sum_at, takes_draws};

@@ -1,8 +1,7 @@
 //! Bodies that are lists of actions.
-ghost use Rattle.std.specs.Prelude.{◌≡◌, ◌++◌, Err, IfErr, IfOk, IsTrue, MatchOption, OnOk, [], false, flat_map, map};
+ghost use Rattle.std.specs.Prelude.{◌≡◌, Err, IfErr, IfOk, IsTrue, MatchOption, [], false};
 ghost use Rattle.std.specs.List.{list_all, list_any};
 ghost use Rattle.eco_ids.specs.declared.refusal.Refusal.TheVariants.{OutOfMemory};
-ghost use Rattle.eco_query.specs.Queries.{slot_view};
 ghost use Rattle.eco_bodies.specs.Actions as spec;
 ghost use Rattle.eco_bodies.specs.Actions.{script_writes};
 ghost use Rattle.eco_bodies.specs.Scripts.{is_allowed, script_commands, script_taken};

@@ -19,6 +19,19 @@ use eco_tables::Values;
 use eco_world::TableRows;
 use std::alloc::AllocError;
 
+// Does the one with the values of two columns that keep as many fields of each, of which most keep few, and else the other.
+macro_rules! at_equal_few {
+    ($values:expr, $others:expr, |$rows:ident, $more:ident| $done:expr, $else:expr) => {
+        match ($values, $others) {
+            (Values::One($rows), Values::One($more)) => $done,
+            (Values::Two($rows), Values::Two($more)) => $done,
+            (Values::Three($rows), Values::Three($more)) => $done,
+            (Values::Four($rows), Values::Four($more)) => $done,
+            _ => $else,
+        }
+    };
+}
+
 /// The values that a slot shows in the rows of a table; none, where it shows none there.
 #[derive(Clone, Copy)]
 pub(crate) struct Column<'a> {
@@ -151,21 +164,12 @@ impl<'a> Column<'a> {
             (λ sum. Set entity id sum) (sum_of_both (shown_in row self.now) (shown_in row other.now)))) }
         ensures err { OnErr result (stage.new ≡ stage.old) }
     {
-        match (self.values, other.values) {
-            (Values::One(rows), Values::One(others)) => {
-                set_sum_in_row(rows, others, row, entity, id, stage)
-            }
-            (Values::Two(rows), Values::Two(others)) => {
-                set_sum_in_row(rows, others, row, entity, id, stage)
-            }
-            (Values::Three(rows), Values::Three(others)) => {
-                set_sum_in_row(rows, others, row, entity, id, stage)
-            }
-            (Values::Four(rows), Values::Four(others)) => {
-                set_sum_in_row(rows, others, row, entity, id, stage)
-            }
-            _ => self.set_any_sum(other, row, entity, id, stage),
-        }
+        at_equal_few!(
+            self.values,
+            other.values,
+            |rows, others| set_sum_in_row(rows, others, row, entity, id, stage),
+            self.set_any_sum(other, row, entity, id, stage)
+        )
     }
 
     // Records that sum for each of some entities, each row by itself.
@@ -203,20 +207,11 @@ impl<'a> Column<'a> {
         ensures { OnOk result (stage.new ≡ stage.old ++ set_sums_from
             (whole_values self.now.values) (whole_values other.now.values) id first entities.now) }
     {
-        match (self.values, other.values) {
-            (Values::One(rows), Values::One(others)) => {
-                set_sums_in_rows(rows, others, first, entities, id, stage)
-            }
-            (Values::Two(rows), Values::Two(others)) => {
-                set_sums_in_rows(rows, others, first, entities, id, stage)
-            }
-            (Values::Three(rows), Values::Three(others)) => {
-                set_sums_in_rows(rows, others, first, entities, id, stage)
-            }
-            (Values::Four(rows), Values::Four(others)) => {
-                set_sums_in_rows(rows, others, first, entities, id, stage)
-            }
-            _ => self.set_any_sums(other, first, entities, id, stage),
-        }
+        at_equal_few!(
+            self.values,
+            other.values,
+            |rows, others| set_sums_in_rows(rows, others, first, entities, id, stage),
+            self.set_any_sums(other, first, entities, id, stage)
+        )
     }
 }

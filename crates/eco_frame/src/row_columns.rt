@@ -1,6 +1,6 @@
 //! The columns in which consecutive rows show their values.
 ghost use Rattle.std.specs.Prelude.{◌≡◌, ◌<◌, ◌≤◌, ◌+◌, ◌-◌, ◌^◌, ◌∷◌, ℕ, [], drop, length, map, option_map, slice_get, take};
-ghost use Rattle.std.specs.Prelude.{vec_capacity, vec_len};
+ghost use Rattle.std.specs.Prelude.{vec_capacity};
 ghost use Rattle.std.specs.Prelude.{IfNone, IfSome, IsTrue, None, OnOk, Some};
 ghost use Rattle.eco_ids.specs.World.{record_of};
 ghost use Rattle.eco_query.specs.Queries.{slot_view};

@@ -1,4 +1,4 @@
-use Rattle.eco_ids.proofs.Common.{◌≡◌, ◌+◌, ◌≤◌, ◌++◌, ◌∷◌, List, [], Id, length, IsOk, IsTrue, insert, sym, ap, ◌∙◌, subst}
+use Rattle.eco_ids.proofs.Common.{◌≡◌, ◌+◌, ◌<◌, ◌≤◌, ◌++◌, ◌∷◌, List, [], Id, length, IsOk, IsTrue, insert, sym, ap, ◌∙◌, subst}
 use Rattle.eco_ids.proofs.Common.{arith, rules, id_cmp, is_ascending, with_item, Err, SearchSays}
 use Rattle.std.proofs.lemmas.List.{length-append}
 use Rattle.std.proofs.lemmas.List.Edits.{insert_end, length-insert}
@@ -9,21 +9,20 @@ use Rattle.eco_ids.proofs.type_list.TypeList.insert.Goals as goal
 
 pub returns-in_err-insert-clause-short : goal.returns-in_err-insert-clause-short
 returns-in_err-insert-clause-short c = λ short.
-    let is : insert c.self.inside.ids.items c.in-Err.place c.args.id ≡ with_item id_cmp c.self.inside.ids.items c.args.id =
+    let is : insert c.self.inside.ids c.in-Err.place c.args.id ≡ with_item id_cmp c.self.inside.ids c.args.id =
     rw c.self.view_is c.in-Err.ensures.says.1 in
-    let one_more : length (insert c.self.inside.ids.items c.in-Err.place c.args.id) ≡ length c.self.inside.ids.items + 1 =
-    length-insert c.self.inside.ids.items c.in-Err.place c.args.id (rw c.self.view_is c.in-Err.ensures.within) in
-    let few : length (with_item id_cmp c.self.inside.ids.items c.args.id) ≤ 3 = rw c.self.view_is short in
-    let same : length (with_item id_cmp c.self.inside.ids.items c.args.id) ≡ length c.self.inside.ids.items + 1 = ap length (sym is) ∙ one_more in
-    let wide : 3 ≤ c.self.inside.ids.capacity = c.spilled-is_long.ensures.at_least_inline in
-    let room : length c.self.inside.ids.items + 1 ≤ c.self.inside.ids.capacity = omega arith in
-    let done : IsOk c.insert.result = c.insert.ensures.succeeds room in
+    let one_more : length (insert c.self.inside.ids c.in-Err.place c.args.id) ≡ length c.self.inside.ids + 1 =
+    length-insert c.self.inside.ids c.in-Err.place c.args.id (rw c.self.view_is c.in-Err.ensures.within) in
+    let few : length (with_item id_cmp c.self.inside.ids c.args.id) ≤ 3 = rw c.self.view_is short in
+    let same : length (with_item id_cmp c.self.inside.ids c.args.id) ≡ length c.self.inside.ids + 1 = ap length (sym is) ∙ one_more in
+    let fewer : length c.self.inside.ids < 3 = omega arith in
+    let done : IsOk c.insert.result = c.insert.ensures.short fewer in
     search rules
 
 pub invariant_of-self-in-Err : goal.invariant_of-self-in-Err
 invariant_of-self-in-Err c =
-    let made : c.insert.new.self.items ≡ insert c.self.inside.ids.items c.in-Err.place c.args.id = search rules in
-    let is : insert c.self.inside.ids.items c.in-Err.place c.args.id ≡ with_item id_cmp c.self.inside.ids.items c.args.id =
+    let made : c.insert.new.self ≡ insert c.self.inside.ids c.in-Err.place c.args.id = search rules in
+    let is : insert c.self.inside.ids c.in-Err.place c.args.id ≡ with_item id_cmp c.self.inside.ids c.args.id =
     rw c.self.view_is c.in-Err.ensures.says.1 in
     rw made (record {
       ascending = rw is (ascending_with id_cmp_total _ c.args.id c.self.invariant.ascending);
@@ -38,18 +37,17 @@ at_end items shown id same says up =
 
 pub returns-in_err-push-clause-short : goal.returns-in_err-push-clause-short
 returns-in_err-push-clause-short c = λ short.
-    let items = c.self.inside.ids.items in
+    let items = c.self.inside.ids in
     let is = at_end items c.as_slice.result.now c.args.id c.as_slice.ensures (c.is_behind.ensures c.if-is_behind.true) c.self.invariant.ascending in
     let few : length (with_item id_cmp items c.args.id) ≤ 3 = rw c.self.view_is short in
     let same : length (with_item id_cmp items c.args.id) ≡ length items + 1 = ap length is ∙ length-append items (c.args.id ∷ []) in
-    let wide : 3 ≤ c.self.inside.ids.capacity = c.spilled-is_long.ensures.at_least_inline in
-    let room : length items + 1 ≤ c.self.inside.ids.capacity = omega arith in
-    let done : IsOk c.push.result = c.push.ensures.succeeds room in
+    let fewer : length items < 3 = omega arith in
+    let done : IsOk c.push.result = c.push.ensures.short fewer in
     search rules
 
 pub invariant_of-self-then-is_behind : goal.invariant_of-self-then-is_behind
 invariant_of-self-then-is_behind c =
-    let items = c.self.inside.ids.items in
+    let items = c.self.inside.ids in
     let is = at_end items c.as_slice.result.now c.args.id c.as_slice.ensures (c.is_behind.ensures c.if-is_behind.true) c.self.invariant.ascending in
     subst (λ xs. IsTypeList xs c.joined_by-self-inside.result) (sym c.in_ok-push.ensures.ok) (record {
       ascending = subst (λ xs. IsTrue (is_ascending id_cmp xs)) is (ascending_with id_cmp_total items c.args.id c.self.invariant.ascending);
@@ -58,6 +56,6 @@ invariant_of-self-then-is_behind c =
 
 pub returns-in_ok-push-clause-ok : goal.returns-in_ok-push-clause-ok
 returns-in_ok-push-clause-ok c =
-    let items = c.self.inside.ids.items in
+    let items = c.self.inside.ids in
     let is = at_end items c.as_slice.result.now c.args.id c.as_slice.ensures (c.is_behind.ensures c.if-is_behind.true) c.self.invariant.ascending in
     c.in_ok-push.ensures.ok ∙ sym is ∙ ap (λ xs. with_item id_cmp xs c.args.id) c.self.view_is

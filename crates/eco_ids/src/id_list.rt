@@ -26,14 +26,15 @@ pub(crate) struct IdList {
 }
 
 impl Model for IdList {
-    ghost use Rattle.std.specs.Prelude.{◌≤◌, List, drop, length};
+    ghost use Rattle.std.specs.Prelude.{◌<◌, ◌≤◌, List, drop, length};
+    ghost use Rattle.smallvec.specs.SmallVec.{IsSpilled};
     ghost use Rattle.eco_ids.specs.declared.id.Id.{Id};
 
     ghost Value = { List Id };
 
     ghost view = { λ l. drop l.gone l.ids.items };
 
-    ghost invariant = { λ l. l.gone ≤ length l.ids.items };
+    ghost invariant = { λ l. (l.gone ≤ length l.ids.items) × (0 < l.gone → IsSpilled 3 l.ids) };
 }
 
 impl IdList {
@@ -80,7 +81,13 @@ impl IdList {
     pub(crate) fn as_slice(&self) -> &[Id]
         ensures { result.now ≡ self.now }
     {
-        &self.ids.as_slice()[self.gone..]
+        let ids = self.ids.as_slice();
+        // None has gone from a few.
+        if self.ids.spilled() {
+            &ids[self.gone..]
+        } else {
+            ids
+        }
     }
 
     /// The id is the last from now on. An `Err` comes where memory is refused, and leaves the list.
@@ -89,7 +96,12 @@ impl IdList {
         ensures err { OnErr result (self.new ≡ self.old) }
         ensures short { length self.old < INLINE_IDS → IsOk result }
     {
-        self.gone = win_room(&mut self.ids, self.gone);
+        if self.gone > 0 {
+            let end = self.ids.len() - self.gone;
+            return self.insert_beside_gap(end, id);
+        }
+        // A list has room for a few ids, whatever it held before.
+        let _is_long = self.ids.spilled();
         self.ids.push(id)?;
         Ok(())
     }
@@ -97,6 +109,24 @@ impl IdList {
     /// The id stands at the place from now on, and those from there on behind it. An `Err` comes where memory is refused, and
     /// leaves the list.
     pub(crate) fn insert(&mut self, place: usize, id: Id) -> Result<(), AllocError>
+        requires { place ≤ length self.old }
+        ensures ok { OnOk result (self.new ≡ insert self.old place id) }
+        ensures err { OnErr result (self.new ≡ self.old) }
+        ensures short { length self.old < INLINE_IDS → IsOk result }
+    {
+        if self.gone > 0 {
+            return self.insert_beside_gap(place, id);
+        }
+        // A list has room for a few ids, whatever it held before.
+        let _is_long = self.ids.spilled();
+        self.ids.insert(place, id)?;
+        Ok(())
+    }
+
+    // What `insert` does where some have gone. Apart, since mostly none has.
+    #[cold]
+    #[inline(never)]
+    fn insert_beside_gap(&mut self, place: usize, id: Id) -> Result<(), AllocError>
         requires { place ≤ length self.old }
         ensures ok { OnOk result (self.new ≡ insert self.old place id) }
         ensures err { OnErr result (self.new ≡ self.old) }
@@ -120,7 +150,7 @@ impl IdList {
         ensures { self.new ≡ remove self.old place }
     {
         let count = self.ids.len() - self.gone;
-        if count > FEW_MOVED && place < count / 2 {
+        if count > FEW_MOVED && place < count / 2 && self.ids.spilled() {
             let ids = self.ids.as_mut_slice();
             ids.copy_within(self.gone..self.gone + place, self.gone + 1);
             self.gone += 1;
@@ -136,6 +166,7 @@ fn insert_in_gap(ids: &mut SmallVec<Id, INLINE_IDS>, gone: usize, place: usize, 
     requires within { gone + place ≤ length ids.old.items }
     ensures is { drop (gone - 1) ids.new.items ≡ insert (drop gone ids.old.items) place id }
     ensures length { length ids.new.items ≡ length ids.old.items }
+    ensures capacity { ids.new.capacity ≡ ids.old.capacity }
 {
     let ids = ids.as_mut_slice();
     ids.copy_within(gone..gone + place, gone - 1);
@@ -144,17 +175,23 @@ fn insert_in_gap(ids: &mut SmallVec<Id, INLINE_IDS>, gone: usize, place: usize, 
 
 // Where no more fit, and no more are left than have gone, those that are left move to the front: so each is moved seldom. The
 // answer is how many are gone then.
-#[inline]
+#[cold]
+#[inline(never)]
 fn win_room(ids: &mut SmallVec<Id, INLINE_IDS>, gone: usize) -> usize
     requires { gone ≤ length ids.old.items }
     ensures same { drop result ids.new.items ≡ drop gone ids.old.items }
     ensures within { result ≤ length ids.new.items }
+    ensures fewer { result ≤ gone }
+    ensures capacity { ids.new.capacity ≡ ids.old.capacity }
     ensures room { length (drop gone ids.old.items) < INLINE_IDS → HasRoomFor ids.new 1 }
 {
+    let capacity = ids.capacity();
+    if gone == 0 {
+        return 0;
+    }
     let len = ids.len();
     let left = len - gone;
-    let capacity = ids.capacity();
-    if gone == 0 || len < capacity || left > gone.max(INLINE_IDS) {
+    if len < capacity || left > gone.max(INLINE_IDS) {
         return gone;
     }
     ids.as_mut_slice().copy_within(gone..len, 0);

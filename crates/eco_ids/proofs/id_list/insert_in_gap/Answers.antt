@@ -1,4 +1,4 @@
-use Rattle.eco_ids.proofs.Common.{◌≡◌, ◌+◌, ◌-◌, length, drop, insert, ap, ◌∙◌, length-set, slice_set}
+use Rattle.eco_ids.proofs.Common.{◌≡◌, ◌+◌, ◌-◌, length, drop, ap, ◌∙◌, length-set, slice_set}
 use Rattle.eco_ids.proofs.Gaps.{length_down, moved_down, refill_whole}
 use Rattle.std.specs.List.{copy_within}
 use Rattle.eco_ids.proofs.id_list.insert_in_gap.Goals as goal

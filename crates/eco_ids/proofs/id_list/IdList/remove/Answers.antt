@@ -1,10 +1,10 @@
-use Rattle.eco_ids.proofs.Common.{◌≡◌, ◌+◌, ◌<◌, ◌≤◌, length, drop, remove, sym, ap, ◌∙◌, arith, length-drop}
+use Rattle.eco_ids.proofs.Common.{◌≡◌, ◌+◌, ◌<◌, ◌≤◌, length, drop, remove, ap, ◌∙◌, arith, length-drop}
 use Rattle.eco_ids.proofs.Gaps.{length_up, moved_up, refill_whole, remove_behind}
 use Rattle.std.specs.List.{copy_within}
 use Rattle.eco_ids.proofs.id_list.IdList.remove.Goals as goal
 
-pub returns-then-place-count : goal.returns-then-place-count
-returns-then-place-count c =
+pub returns-then-spilled : goal.returns-then-spilled
+returns-then-spilled c =
     let ids = c.self.inside.ids.items in
     let gone = c.self.inside.gone in
     let place = c.args.place in

@@ -1,6 +1,6 @@
 use Rattle.eco_ids.proofs.Common.{◌≡◌, ◌+◌, ◌-◌, ◌≤◌, length, drop, insert, ap, ◌∙◌, arith, length-drop}
 use Rattle.eco_ids.proofs.Gaps.{insert_behind}
-use Rattle.eco_ids.proofs.id_list.IdList.insert.Goals as goal
+use Rattle.eco_ids.proofs.id_list.IdList.insert_beside_gap.Goals as goal
 
 pub returns-clause-ok : goal.returns-clause-ok
 returns-clause-ok c =

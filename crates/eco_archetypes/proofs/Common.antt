@@ -19,7 +19,8 @@ pub use Rattle.std.specs.Option.{option_copied}
 pub use Rattle.std.specs.Ordering.{int_eq, is_eq}
 pub use Rattle.eco_archetypes.specs.Archetypes.{ArePassing, FindsRoom, FindsSome, IsAllFound, IsArchetypes, IsIdIndex, KeepsRoom, KeepsTypes}
 pub use Rattle.eco_archetypes.specs.Archetypes.{RowlessBut, RowlessIn}
-pub use Rattle.eco_archetypes.specs.Archetypes.{SameRows, SameSlots, SomeHasType, TakesType, has_one_of, has_rows, is_found_by, is_found_in, is_rowless}
+pub use Rattle.eco_archetypes.specs.Archetypes.{SameRows, SameSlots, SomeHasType, TakesType, has_one_of, has_rows, is_found_by, is_found_in}
+pub use Rattle.eco_archetypes.specs.Archetypes.{is_rowless, is_type}
 pub use Rattle.eco_archetypes.specs.Archetypes.{passes_at, standing_in, type_at, type_matches}
 pub use Rattle.eco_archetypes.specs.Naming.{is_named_by_some, names_in}
 pub use Rattle.eco_archetypes.specs.Sweeping.{DropsRowless, IsLess, Sweeps, has_table}
@@ -35,16 +36,18 @@ pub use Rattle.eco_ids.proofs.Facts.{any_is, equal_tie, id_eq_is, id_eq_itself, 
 pub use Rattle.eco_ids.proofs.IdOrder.{id_cmp_total, same_id}
 pub use Rattle.eco_ids.proofs.Results.{err_says, on_err, on_ok}
 pub use Rattle.eco_ids.proofs.SetLaws.{joins_with, leaves_without}
+pub use Rattle.eco_ids.proofs.SameIds.{same_ids-Decides}
+pub use Rattle.eco_ids.specs.Fingerprint.{fingerprint}
 pub use Rattle.eco_ids.specs.Order.{has_item, id_cmp, id_eq, is_ascending, with_item, without_item}
 pub use Rattle.eco_ids.specs.declared.id.Id.{Id}
 pub use Rattle.eco_ids.specs.declared.pattern.Pattern.{Pattern}
 pub use Rattle.eco_index.proofs.Graphs.{graph_cut, graph_linked, graph_made}
-pub use Rattle.eco_index.proofs.Toggles.{lost_again, toggled_other, twice}
-pub use Rattle.eco_index.proofs.TypeMaps.{type_decided, type_map-insert, type_map-remove}
+pub use Rattle.eco_index.proofs.Toggles.{toggled_other, twice}
+pub use Rattle.eco_index.proofs.TypeMaps.{marks_back, marks_turned}
 pub use Rattle.eco_index.proofs.TypeTests.{names_match}
 pub use Rattle.eco_index.specs.Edges.{Cuts, IsGraph, IsTwofold, Links, SameEdges, edge, exchanged, toggled}
 pub use Rattle.eco_index.specs.IdIndex.{Lists, ListsSame, Turns, any_matches, is_own, lists_of, matches_id}
-pub use Rattle.eco_index.specs.TypeMap.{IsTypeMap, LeadAlike, LeadsAlone, LeadsGrown, TakesGrown, same_ids}
+pub use Rattle.eco_index.specs.TypeMap.{AreKinds, IsTypeMap, is_but, same_ids, type_marked}
 pub use Rattle.eco_index.specs.TypeTests.{AreNeeded, group_at, naming, passes_with, passes_without, type_matches_one, type_names}
 pub use Rattle.eco_query.specs.Queries.{QuerySlot, exactly, matches_type}
 pub use Rattle.eco_tables.proofs.Slots.{none_is, room_some, row_some}

@@ -1,8 +1,8 @@
 -- Where the edge of an id leads.
 use Rattle.eco_archetypes.proofs.Common.{◌≡◌, ◌≢◌, ℕ, List, Option, Some, None, IsSome, IsTrue, Result, Ok, Err, IfOk, OnOk, OnErr, refl, sym, ap}
-use Rattle.eco_archetypes.proofs.Common.{subst, ◌∙◌, HashMap, same_Some, Id, id_cmp, is_ascending, TableState, slot_of, table_in, Lists, Cache, edge}
+use Rattle.eco_archetypes.proofs.Common.{subst, ◌∙◌, Bool, same_Some, Id, id_cmp, is_ascending, TableState, slot_of, table_in, Lists, Cache, edge}
 use Rattle.eco_archetypes.proofs.Common.{toggled, IsGraph, IsTwofold, Links, SameEdges, toggled_other, twice, type_at, IsArchetypes}
-use Rattle.eco_archetypes.proofs.ArchetypeLemmas.{found_linked, found_unlinked, one_slot, type_there, there_as_typed, typed_table}
+use Rattle.eco_archetypes.proofs.ArchetypeLemmas.{found_linked, found_unlinked, type_there, there_as_typed, typed_table}
 
 some_none : {X P : Type 0} (x : X) → Some x ≡ None → P
 some_none x e = absurd (cc)
@@ -34,7 +34,7 @@ module _ (s : List (Option TableState)) (g : List (List (Id × ℕ))) (graph : I
 
 -- ---- an edge is stored
 
-module _ {S : Type 0} {ks : List Cache} {s : List (Option TableState)} {m : HashMap (List Id) ℕ S} {l : Lists}
+module _ {ks : List Cache} {s : List (Option TableState)} {m : ℕ → ℕ → Bool} {l : Lists}
     {g : List (List (Id × ℕ))} (found : IsArchetypes s m l g ks) (from to : ℕ) (i : Id)
     (there : IsSome (slot_of s from)) (up : IsTrue (is_ascending id_cmp (table_in s from).ids))
     (typed : type_at s to ≡ Some (toggled (table_in s from).ids i)) where
@@ -54,7 +54,7 @@ module _ {S : Type 0} {ks : List Cache} {s : List (Option TableState)} {m : Hash
           let was = found.graph to k i e in
           let ids : was.0 ≡ toggled own i = same_Some _ _ (sym was.1 ∙ typed) in
           let back : type_at s k ≡ Some own = was.2 ∙ ap (λ xs. Some (toggled xs i)) ids ∙ ap Some (twice own i up) in
-          let same : k ≡ from = one_slot s m found.types k from own back (type_there s from there) in
+          let same : k ≡ from = found.kinds k from own back (type_there s from there) in
           some_none to (sym (ap (λ j. edge g j i) (sym same) ∙ twofold to k i e) ∙ free)
 
   -- it is stored, or memory was refused

@@ -1,13 +1,14 @@
 -- What is left, and found, where many tables went.
 use Rattle.eco_archetypes.proofs.Common.{◌≡◌, ℕ, ◌&&◌, ◌||◌, Bool, true, false, cond, List, [], ◌∷◌, ◌++◌, IfNone, nat_eq}
-use Rattle.eco_archetypes.proofs.Common.{true≢false, OnSome, Option, Some, None, option_map, is_some, refl, sym, ap, ◌∙◌, inl, inr, HashMap, get}
-use Rattle.eco_archetypes.proofs.Common.{list_any, cases_eq, Decides-eqb, list_any-append, Id, Pattern, TableState, slot_of, rowless_type, SetsSlot, Cache}
-use Rattle.eco_archetypes.proofs.Common.{AreExact, ChangesType, edge, toggled, Lists, same_ids, type_at, type_matches, is_rowless, IsArchetypes, SameSlots}
+use Rattle.eco_archetypes.proofs.Common.{true≢false, OnSome, Option, Some, None, option_map, is_some, refl, sym, ap, ◌∙◌, inl, inr}
+use Rattle.eco_archetypes.proofs.Common.{list_any, cases_eq, Decides-eqb, list_any-append, Id, TableState, slot_of, rowless_type, SetsSlot, Cache}
+use Rattle.eco_archetypes.proofs.Common.{AreExact, ChangesType, edge, toggled, Lists, type_at, type_marked, type_matches, is_rowless, IsArchetypes, SameSlots}
 use Rattle.eco_archetypes.proofs.Common.{has_table, DropsRowless, IsLess}
 use Rattle.eco_ids.proofs.Lists.{not_equal}
 use Rattle.eco_index.specs.Sweeping.{kept_if, KeepsListed, KeepsEdges}
-use Rattle.eco_index.proofs.Sweeping.{kept_some, kept_stays}
-use Rattle.eco_archetypes.proofs.ArchetypeLemmas.{changes_type}
+use Rattle.eco_index.proofs.Sweeping.{kept_some}
+use Rattle.eco_index.proofs.Keys.{and_true}
+use Rattle.eco_archetypes.proofs.ArchetypeLemmas.{changes_type, kinds_kept}
 use Rattle.eco_archetypes.proofs.Widths.{AreKept, kept_agreed, kinds}
 
 pub less_both : (s s1 s2 : List (Option TableState)) → IsLess s s1 → IsLess s1 s2 → IsLess s s2
@@ -90,44 +91,31 @@ module _ (s s' : List (Option TableState)) (less : IsLess s s') where
     ];
   }
 
-  pub found_swept : {S : Type 0} {ks ks' : List Cache} (m m' : HashMap (List Id) ℕ S) (l l' : Lists) (g g' : List (List (Id × ℕ)))
-      → IsArchetypes s m l g ks
-      → ((t : List Id) → get same_ids m' t ≡ kept_if (has_table s') (get same_ids m t)) → KeepsListed (has_table s') l l'
+  -- what is listed is what is left
+  kept_index : {P : Type 0} (test : Option (List Id) → P → Bool) (l l' : P → ℕ → Bool) → ((p : P) → test None p ≡ false)
+      → ((p : P) (n : ℕ) → l p n ≡ test (type_at s n) p) → KeepsListed (has_table s') l l' → (p : P) (n : ℕ) → l' p n ≡ test (type_at s' n) p
+  kept_index test l l' none index listed p n =
+      listed p n ∙ ap (λ b. b && has_table s' n) (index p n) ∙ elim (less n) [
+        | inl same ↦ rw same (by (slot_of s n))
+        | inr gone ↦ rw gone (and_false (test (type_at s n) p) ∙ sym (none p))
+      ]
+    where
+      by : (o : Option TableState) → (test (option_map (λ (t : TableState). t.ids) o) p && is_some o) ≡ test (option_map (λ (t : TableState). t.ids) o) p
+      by None = and_false (test None p) ∙ sym (none p)
+      by (Some t) = and_true (test (Some t.ids) p)
+
+  pub found_swept : {ks ks' : List Cache} (m m' : ℕ → ℕ → Bool) (l l' : Lists) (g g' : List (List (Id × ℕ))) → IsArchetypes s m l g ks
+      → KeepsListed (has_table s') m m' → KeepsListed (has_table s') l l'
       → KeepsEdges (has_table s') g g' → AreExact (type_at s') ks' → IsArchetypes s' m' l' g' ks'
-  found_swept m m' l l' g g' found gets listed keeps exact = record {
-    types = record {
-      found = λ t n e.
-          let was = kept_some (has_table s') (get same_ids m t) n (sym (gets t) ∙ e) in
-          type_there n was.1 ∙ found.types.found t n was.0;
-      there = λ t n e.
-          let there = there_typed n t e in
-          gets t ∙ kept_stays (has_table s') (get same_ids m t) n (found.types.there t n (sym (type_there n there) ∙ e)) there;
-    };
-    matches = λ p n. listed p n ∙ ap (λ b. b && has_table s' n) (found.matches p n) ∙ matched p n;
+  found_swept m m' l l' g g' found marks listed keeps exact = record {
+    kinds = kinds_kept (type_at s) (type_at s') (λ n ids e. sym (type_there n (there_typed n ids e)) ∙ e) found.kinds;
+    types = kept_index type_marked m m' (λ p. refl) found.types marks;
+    matches = kept_index type_matches l l' (λ p. refl) found.matches listed;
     graph = λ n k i e. led n k i (has_table s' n) refl (sym (keeps n i) ∙ e);
     agreed = kept_agreed s s' less_kept found.agreed;
     cached = exact;
   }
     where
-      matched : (p : Pattern) (n : ℕ) → (type_matches (type_at s n) p && has_table s' n) ≡ type_matches (type_at s' n) p
-      matched p n = elim (less n) [
-        | inl same ↦ rw same (by (slot_of s n))
-        | inr none ↦ rw none (nothing (type_matches (type_at s n) p))
-      ]
-        where
-          nothing : (b : Bool) → (b && false) ≡ false
-          nothing true = refl
-          nothing false = refl
-
-          all : (b : Bool) → (b && true) ≡ b
-          all true = refl
-          all false = refl
-
-          by : (o : Option TableState) → (type_matches (option_map (λ (t : TableState). t.ids) o) p && is_some o)
-              ≡ type_matches (option_map (λ (t : TableState). t.ids) o) p
-          by None = refl
-          by (Some t) = all (type_matches (Some t.ids) p)
-
       led : (n k : ℕ) (i : Id) (b : Bool) → has_table s' n ≡ b → cond b (kept_if (has_table s') (edge g n i)) None ≡ Some k
           → (ids : List Id) × (type_at s' n ≡ Some ids) × (type_at s' k ≡ Some (toggled ids i))
       led n k i true here e =

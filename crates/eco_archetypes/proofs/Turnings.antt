@@ -1,22 +1,17 @@
 -- A table has one id more or less, where it stands.
-use Rattle.eco_archetypes.proofs.Common.{◌≡◌, ◌≢◌, ℕ, ◌==◌, Bool, true, false, true≢false, cond, not, ◌&&◌, ◌||◌}
+use Rattle.eco_archetypes.proofs.Common.{◌≡◌, ◌≢◌, ℕ, Bool, true, false, true≢false, cond, not, ◌&&◌, ◌||◌}
 use Rattle.eco_archetypes.proofs.Common.{if◌then◌else◌, List, [], ◌∷◌, map, Option, Some, None, option_map, unwrap_or, IsSome, IsTrue, Result, Ok}
-use Rattle.eco_archetypes.proofs.Common.{Err, IfOk, nat_eq, Less, Equal, Greater, refl, sym, ap, ◌∙◌, ◌≤◌, ◌⊎◌, inl, inr, HashMap, Updates}
-use Rattle.eco_archetypes.proofs.Common.{get, lookup, exactly, find, by_order, cases_eq, same_Some}
-use Rattle.eco_archetypes.proofs.Common.{Decides-eqb, Id, Pattern, id_cmp, id_eq, has_item, is_ascending}
+use Rattle.eco_archetypes.proofs.Common.{Err, IfOk, nat_eq, Less, Equal, Greater, refl, sym, ap, ◌∙◌, ◌≤◌, ◌⊎◌, inl, inr}
+use Rattle.eco_archetypes.proofs.Common.{find, by_order, cases_eq, same_Some}
+use Rattle.eco_archetypes.proofs.Common.{Decides-eqb, Id, Pattern, id_cmp, id_eq, has_item}
 use Rattle.eco_archetypes.proofs.Common.{with_item, without_item, id_eq_sym, equal_tie, or_right, id_cmp_total, same_id, joins_with, leaves_without, TableState}
 use Rattle.eco_archetypes.proofs.Common.{paired, width_in, slot_of, table_in, no_table, turned, SetsSlot, Cuts, Lists, any_matches, matches_id, is_own, Turns}
-use Rattle.eco_archetypes.proofs.Common.{ListsSame, AreTold, Cache, same_ids, IsTypeMap, LeadAlike, LeadsGrown, TakesGrown, lost_again, graph_cut, type_at}
-use Rattle.eco_archetypes.proofs.Common.{type_matches, IsArchetypes, IsIdIndex, TakesType, SameSlots, SomeHasType, AreAgreed, MeetsNeeds, KeepsWidths}
+use Rattle.eco_archetypes.proofs.Common.{ListsSame, AreTold, Cache, fingerprint, is_but, marks_turned, graph_cut, type_at}
+use Rattle.eco_archetypes.proofs.Common.{type_matches, IsArchetypes, IsIdIndex, TakesType, SameSlots, AreAgreed, MeetsNeeds, KeepsWidths}
 use Rattle.eco_ids.specs.OrderLaws.{id_ties}
-use Rattle.eco_ids.proofs.SameIds.{id_eq-Decides, same_ids-Decides}
-use Rattle.eco_archetypes.proofs.ArchetypeLemmas.{index_turned}
-use Rattle.eco_archetypes.proofs.NewWidths.{has_exactly}
+use Rattle.eco_ids.proofs.SameIds.{id_eq-Decides}
+use Rattle.eco_archetypes.proofs.ArchetypeLemmas.{index_turned, kinds_set}
 use Rattle.eco_archetypes.proofs.Widths.{kept_agreed, kept_widths, same_kept}
-
-way : (b : Bool) (P : Type 0) → (b ≡ true → P) → (b ≡ false → P) → P
-way true P f g = f refl
-way false P f g = g refl
 
 -- ---- what the ids of a type match, once one came or went
 
@@ -79,7 +74,7 @@ module _ (s s' : List (Option TableState)) (l l' : Lists) (n : ℕ) (i : Id) (id
   turned_index : (b : Bool) (picks : Pattern → Bool) (now : List Id) → type_at s' n ≡ Some now → Turns b picks l l' n
       → ((p : Pattern) → cond (picks p && true) b (any_matches ids p) ≡ any_matches now p) → IsIdIndex (type_at s') l'
   turned_index b picks now has turns is =
-      index_turned (type_at s) (type_at s') l l' n b picks index (λ k other. ap (option_map (λ (t : TableState). t.ids)) (others k other)) turns
+      index_turned type_matches (type_at s) (type_at s') l l' n index (λ k other. ap (option_map (λ (t : TableState). t.ids)) (others k other)) b picks turns
       (λ p. ap (λ o. cond (picks p && true) b (type_matches o p)) had ∙ is p ∙ sym (ap (λ o. type_matches o p) has))
 
   pub index_gained : type_at s' n ≡ Some (with_item id_cmp ids i) → Turns true (matches_id i) l l' n → IsIdIndex (type_at s') l'
@@ -215,18 +210,6 @@ pub gone_lost : (ids : List Id) (i : Id) → has_item id_cmp (without_item id_cm
 gone_lost ids i =
     leaves_without id_cmp_total ids i i ∙ ap (λ b. not b && has_item id_cmp ids i) (sym (id_ties i i) ∙ (id_eq-Decides i i).1 refl)
 
--- who has just what is left of a type has another of its ids, which no other type than that has
-pub alone_without : (s : List (Option TableState)) (l : Lists) (slot : ℕ) (i j : Id) (ids : List Id) → IsIdIndex (type_at s) l
-    → type_at s slot ≡ Some ids → has_item id_cmp ids i ≡ true → has_item id_cmp ids j ≡ true → id_eq j i ≡ false
-    → ((n : ℕ) → l (exactly j) n ≡ true → n ≡ slot) → (n : ℕ) → type_at s n ≢ Some (without_item id_cmp ids i)
-alone_without s l slot i j ids index had has there other alone n is =
-    let less = without_item id_cmp ids i in
-    let kept : has_item id_cmp less j ≡ true =
-    leaves_without id_cmp_total ids i j ∙ ap (λ b. not b && has_item id_cmp ids j) (id_eq_sym i j ∙ other) ∙ there in
-    let listed : l (exactly j) n ≡ true = index (exactly j) n ∙ ap (λ o. type_matches o (exactly j)) is ∙ has_exactly less j ∙ kept in
-    let same : ids ≡ less = same_Some ids less (sym had ∙ ap (type_at s) (sym (alone n listed)) ∙ is) in
-    true≢false (sym has ∙ ap (λ xs. has_item id_cmp xs i) same ∙ gone_lost ids i)
-
 pub covers_slots : (s s' : List (Option TableState)) → SameSlots s s' → KeepsWidths s s'
 covers_slots s s' same = kept_widths s s' (same_kept s s' same)
 
@@ -245,102 +228,22 @@ index_slots s s' l l' index same lists p n =
     lists p n ∙ index p n ∙ ap (λ o. type_matches (option_map (λ (t : TableState). t.ids) o) p) (sym (same n))
 
 -- ---- all that finds the table
-not_same : (t q : List Id) → same_ids t q ≡ false → t ≢ q
-not_same t q e h = true≢false (sym ((same_ids-Decides t q).1 h) ∙ e)
-
-others_typed : {s s' : List (Option TableState)} {n : ℕ} {u : List Id} → TakesType s s' n u → (k : ℕ) → k ≢ n → type_at s' k ≡ type_at s k
+pub others_typed : {s s' : List (Option TableState)} {n : ℕ} {u : List Id} → TakesType s s' n u → (k : ℕ) → k ≢ n → type_at s' k ≡ type_at s k
 others_typed takes k other = ap (option_map (λ (x : TableState). x.ids)) (takes.others k other)
 
-module _ {S : Type 0} {ks : List Cache} {s s' : List (Option TableState)} {m m' : HashMap (List Id) ℕ S} {l : Lists} {g : List (List (Id × ℕ))}
-    {n : ℕ} {t u : List Id} (found : IsArchetypes s m l g ks) (had : type_at s n ≡ Some t) (takes : TakesType s s' n u)
-    (absent : (k : ℕ) → type_at s k ≢ Some u)
-    (gets : (q : List Id) → get same_ids m' q ≡ cond (same_ids u q) (Some n) (cond (same_ids t q) None (get same_ids m q))) where
-  renamed_types : IsTypeMap (type_at s') m'
-  renamed_types = record {
-    found = λ q k e. way (same_ids u q) (type_at s' k ≡ Some q)
-        (λ same.
-        let is : n ≡ k = same_Some n k (sym (gets q ∙ ap (λ b. cond b (Some n) (cond (same_ids t q) None (get same_ids m q))) same) ∙ e) in
-        ap (type_at s') (sym is) ∙ takes.typed ∙ ap Some ((same_ids-Decides u q).0 same))
-        (λ other. by q k (sym (ap (λ b. cond b (Some n) (cond (same_ids t q) None (get same_ids m q))) other) ∙ sym (gets q) ∙ e));
-    there = λ q k e. way (k == n) (get same_ids m' q ≡ Some k)
-        (λ same.
-        let is : k ≡ n = (Decides-eqb k n).0 same in
-        let own : u ≡ q = same_Some u q (sym takes.typed ∙ ap (type_at s') (sym is) ∙ e) in
-        gets q ∙ ap (λ b. cond b (Some n) (cond (same_ids t q) None (get same_ids m q))) ((same_ids-Decides u q).1 own) ∙ ap Some (sym is))
-        (λ other.
-        let apart : k ≢ n = λ is. true≢false (sym ((Decides-eqb k n).1 is) ∙ other) in
-        let was : type_at s k ≡ Some q = sym (others_typed takes k apart) ∙ e in
-        gets q
-        ∙ ap (λ b. cond b (Some n) (cond (same_ids t q) None (get same_ids m q)))
-        (way (same_ids u q) (same_ids u q ≡ false) (λ same. absurd (absent k (was ∙ ap Some (sym ((same_ids-Decides u q).0 same))))) (λ no_one. no_one))
-        ∙ ap (λ b. cond b None (get same_ids m q))
-        (way (same_ids t q) (same_ids t q ≡ false)
-        (λ same. absurd (apart (same_Some k n
-        (sym (found.types.there q k was) ∙ ap (get same_ids m) (sym ((same_ids-Decides t q).0 same)) ∙ found.types.there t n had))))
-        (λ no_one. no_one))
-        ∙ found.types.there q k was);
-  }
-    where
-      by : (q : List Id) (k : ℕ) → cond (same_ids t q) None (get same_ids m q) ≡ Some k → type_at s' k ≡ Some q
-      by q k e = way (same_ids t q) (type_at s' k ≡ Some q)
-          (λ same. absurd (let bad : ◌≡◌ {A = Option ℕ} None (Some k) = sym (ap (λ b. cond b None (get same_ids m q)) same) ∙ e in cc))
-          (λ other.
-          let was : type_at s k ≡ Some q = found.types.found q k (sym (ap (λ b. cond b None (get same_ids m q)) other) ∙ e) in
-          let apart : k ≢ n = λ is. not_same t q other (same_Some t q (sym had ∙ ap (type_at s) (sym is) ∙ was)) in
-          others_typed takes k apart ∙ was)
-
-  pub found_turned : {ks' : List Cache} {l' : Lists} {g' : List (List (Id × ℕ))}
-      → IsIdIndex (type_at s') l' → Cuts g g' n → AreAgreed s' → AreTold ks ks' n (Some u) → IsArchetypes s' m' l' g' ks'
-  found_turned {ks'} {l'} {g'} index cuts agreed told = record {
-    types = renamed_types;
-    matches = index;
-    graph = graph_cut (type_at s) (type_at s') g g' n found.graph cuts (others_typed takes);
-    agreed = agreed;
-    cached = told (type_at s) (type_at s') (record { there = takes.typed; others = others_typed takes }) found.cached;
-  }
-
--- a type that came out of the map, and has the id now
-module _ {S : Type 0} (s : List (Option TableState)) (m ready taken : HashMap (List Id) ℕ S) (n : ℕ) (i : Id) (ids grown : List Id)
-    (types : IsTypeMap (type_at s) m) (same : ready.entries ≡ m.entries) (had : type_at s n ≡ Some ids) where
-  pub led_type : (t : List Id) → get same_ids ready t ≡ Some n → t ≡ ids
-  led_type t led = same_Some t ids (sym (types.found t n (ap (lookup (same_ids t)) (sym same) ∙ led)) ∙ had)
-
-  -- where another type has the id too, and all else alike, some table has that type
-  pub grown_taken : LeadsGrown ready n i → SomeHasType s (with_item id_cmp ids i)
-  grown_taken led =
-      let there = some_is (get same_ids ready (with_item id_cmp led.0 i)) led.2 in (
-        _,
-        types.found _ _ (ap (lookup (same_ids (with_item id_cmp led.0 i))) (sym same) ∙ there)
-            ∙ ap (λ t. Some (with_item id_cmp t i)) (led_type led.0 led.1),
-      )
-
-  module _ (takes : TakesGrown ready taken n i grown) where
-    pub grown_is : grown ≡ with_item id_cmp ids i
-    grown_is = takes.is ∙ ap (λ t. with_item id_cmp t i) (led_type takes.type takes.led)
-
-    pub grown_new : (k : ℕ) → type_at s k ≢ Some grown
-    grown_new k at =
-        let bad : ◌≡◌ {A = Option ℕ} None (Some k) = sym takes.absent ∙ ap (lookup (same_ids grown)) same ∙ types.there grown k at in cc
-
-    out : (q : List Id) → get same_ids taken q ≡ cond (same_ids ids q) None (get same_ids m q)
-    out q =
-        takes.taken.0 q ∙ ap (λ t. cond (same_ids t q) None (get same_ids ready q)) (led_type takes.type takes.led)
-        ∙ ap (λ es. cond (same_ids ids q) None (lookup (same_ids q) es)) same
-
-    pub grown_in : (m' : HashMap (List Id) ℕ S) → Updates same_ids taken m' grown (Some n) → (q : List Id)
-        → get same_ids m' q ≡ cond (same_ids grown q) (Some n) (cond (same_ids ids q) None (get same_ids m q))
-    grown_in m' puts q = puts.0 q ∙ ap (cond (same_ids grown q) (Some n)) (out q)
-
-    pub grown_back : (m' : HashMap (List Id) ℕ S) (t : List Id) → t ≡ without_item id_cmp grown i → has_item id_cmp ids i ≡ false
-        → IsTrue (is_ascending id_cmp ids) → Updates same_ids taken m' t (Some n) → LeadAlike m m'
-    grown_back m' t is lacks up puts q =
-        let back : t ≡ ids = is ∙ ap (λ u. without_item id_cmp u i) grown_is ∙ lost_again ids i lacks up in
-        puts.0 q ∙ ap (λ u. cond (same_ids u q) (Some n) (get same_ids taken q)) back ∙ ap (cond (same_ids ids q) (Some n)) (out q)
-        ∙ by q (same_ids ids q) refl
-      where
-        by : (q : List Id) (b : Bool) → same_ids ids q ≡ b → cond b (Some n) (cond b None (get same_ids m q)) ≡ get same_ids m q
-        by q true e = sym (types.there ids n had) ∙ ap (get same_ids m) ((same_ids-Decides ids q).0 e)
-        by q false e = refl
+pub found_turned : {ks ks' : List Cache} {s s' : List (Option TableState)} {m m' : ℕ → ℕ → Bool} {l l' : Lists} {g g' : List (List (Id × ℕ))}
+    {m1 : ℕ → ℕ → Bool} {n : ℕ} {t u : List Id} → IsArchetypes s m l g ks → type_at s n ≡ Some t → TakesType s s' n u
+    → ((k : ℕ) → type_at s k ≢ Some u) → Turns true (nat_eq (fingerprint u)) m m1 n
+    → Turns false (is_but (fingerprint t) (fingerprint u)) m1 m' n → IsIdIndex (type_at s') l' → Cuts g g' n → AreAgreed s'
+    → AreTold ks ks' n (Some u) → IsArchetypes s' m' l' g' ks'
+found_turned {s = s} {s'} {m} {m'} {g = g} {g'} {m1} {n} {t} {u} found had takes absent on off index cuts agreed told = record {
+  kinds = kinds_set (type_at s) (type_at s') n u (others_typed takes) takes.typed absent found.kinds;
+  types = marks_turned (type_at s) (type_at s') m m1 m' n t u found.types had (others_typed takes) on takes.typed off;
+  matches = index;
+  graph = graph_cut (type_at s) (type_at s') g g' n found.graph cuts (others_typed takes);
+  agreed = agreed;
+  cached = told (type_at s) (type_at s') (record { there = takes.typed; others = others_typed takes }) found.cached;
+}
 
 pub if_ok : {T E : Type 0} (P Q : T → Type 0) (r : Result T E) → ((x : T) → P x → Q x) → IfOk r P → IfOk r Q
 if_ok P Q (Ok x) f h = f x h

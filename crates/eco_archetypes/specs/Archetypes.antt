@@ -2,7 +2,6 @@
 use Rattle.std.specs.Prelude.{◌≡◌, ◌≢◌, ℕ, ◌≤◌, Bool, MatchBool, false, IsTrue, ◌&&◌, nat_lt, nat_eq, length, map, List}
 use Rattle.std.specs.Prelude.{◌∷◌, slice_get}
 use Rattle.std.specs.Prelude.{Option, None, Some, option_map, is_some, Result, IfOk, MatchResult, OnOk, OnErr}
-use Rattle.std.specs.HashMap.{HashMap}
 use Rattle.std.specs.List.{list_any, IsDistinct, flat_map}
 use Rattle.eco_ids.specs.declared.id.Id.{Id}
 use Rattle.eco_ids.specs.declared.pattern.Pattern.{Pattern}
@@ -13,7 +12,7 @@ use Rattle.eco_entities.specs.Registration.{Registration}
 use Rattle.eco_tables.specs.Table.{TableState, retyped_row, TableRow, entities_of}
 use Rattle.eco_tables.specs.Tables.{slot_of, table_in, rowless_type}
 use Rattle.eco_index.specs.Edges.{IsGraph}
-use Rattle.eco_index.specs.TypeMap.{IsTypeMap}
+use Rattle.eco_index.specs.TypeMap.{AreKinds, IsTypeMap, same_ids}
 use Rattle.eco_index.specs.IdIndex.{Lists, any_matches}
 use Rattle.eco_caches.specs.Caching.{AreExact}
 use Rattle.eco_caches.specs.declared.cache.Cache.{Cache}
@@ -22,6 +21,11 @@ use Rattle.eco_archetypes.specs.Widths.{AreAgreed, StillCover}
 -- the type of the table in a slot, if there is one
 abbrev pub type_at : List (Option TableState) → ℕ → Option (List Id)
 type_at slots n = option_map (λ (t : TableState). t.ids) (slot_of slots n)
+
+-- there is a type, and it has just these ids
+abbrev pub is_type : Option (List Id) → List Id → Bool
+is_type None ids = false
+is_type (Some own) ids = same_ids own ids
 
 -- there is a type, and one of its ids matches
 abbrev pub type_matches : Option (List Id) → Pattern → Bool
@@ -36,10 +40,11 @@ has_one_of ps o = list_any (type_matches o) ps
 abbrev pub IsIdIndex : (ℕ → Option (List Id)) → Lists → Type 0
 IsIdIndex types lists = (p : Pattern) (n : ℕ) → lists p n ≡ type_matches (types n) p
 
--- each table is found by its type and by what its type's ids match, nothing else is found, edges lead
+-- no two tables have the same type, each is found by that and by what its type's ids match, nothing else is found, edges lead
 -- from table to table, an id is as wide in each table, and caches have exactly the tables that they are to have
-pub record IsArchetypes {S : Type 0} (slots : List (Option TableState)) (by_type : HashMap (List Id) ℕ S)
-    (by_id : Lists) (edges : List (List (Id × ℕ))) (caches : List Cache) : Type 0 where
+pub record IsArchetypes (slots : List (Option TableState)) (by_type : ℕ → ℕ → Bool) (by_id : Lists)
+    (edges : List (List (Id × ℕ))) (caches : List Cache) : Type 0 where
+  pub kinds : AreKinds (type_at slots)
   pub types : IsTypeMap (type_at slots) by_type
   pub matches : IsIdIndex (type_at slots) by_id
   pub graph : IsGraph (type_at slots) edges

@@ -1,20 +1,20 @@
 //! The tables of a store, one for each type, found by type and by the patterns that match its ids.
-ghost use Rattle.std.specs.Prelude.{◌≡◌, ◌≢◌, ◌↔◌, List, ℕ, ◌<◌, ◌≤◌, ◌∷◌, length};
-ghost use Rattle.std.specs.Prelude.{slice_get, Some, None, IsSome, IsTrue, IfOk, IfSome, IfNone, OnOk, OnErr, OnSome, is_some};
+ghost use Rattle.std.specs.Prelude.{◌≡◌, ◌≢◌, List, ℕ, ◌<◌, ◌≤◌, ◌∷◌, false, true, find as find_first, length, nat_eq};
+ghost use Rattle.std.specs.Prelude.{slice_get, Some, None, IsSome, IfOk, IfSome, IfNone, OnOk, OnErr, OnSome, is_some};
 ghost use Rattle.std.specs.List.{All};
 ghost use Rattle.std.specs.FinMap.Entries.{find};
-ghost use Rattle.std.specs.HashMap.{IsUnchanged, spare};
 ghost use Rattle.eco_ids.specs.declared.id.Id.{Id as Ids};
 ghost use Rattle.eco_ids.specs.declared.value.TheConstants.{FIELD_COUNT};
 ghost use Rattle.eco_ids.specs.Order.{id_cmp};
 ghost use Rattle.eco_tables.specs.Table.{TableState, entities_of, empty_table};
 ghost use Rattle.eco_tables.specs.Tables.{slot_of, table_in, row_in, SetsSlot, SetsRoom, Moves, MovesAll};
 ghost use Rattle.eco_tables.specs.Tables.{cleared, new_row, with_row, with_written, without_row, rowless_type};
-ghost use Rattle.eco_caches.specs.Caching.{HaveRoom, StayExact};
-ghost use Rattle.eco_caches.specs.Contents.{cache_list};
-ghost use Rattle.eco_index.specs.Contents.{lists_in, slots_by_type};
-ghost use Rattle.eco_index.specs.TypeMap.{same_ids};
-ghost use Rattle.eco_archetypes.specs.Archetypes.{type_at, IsIdIndex, SameSlots, RowlessIn, SameRows, FindsRoom};
+ghost use Rattle.eco_ids.specs.Fingerprint.{fingerprint};
+ghost use Rattle.eco_ids.specs.declared.pattern.Pattern.{Pattern as Patterns};
+ghost use Rattle.eco_index.specs.Contents.{lists_in, slots_by_mark};
+ghost use Rattle.eco_index.specs.IdIndex.{ListsSame, Turns, any_matches};
+ghost use Rattle.eco_index.specs.TypeMap.{IsTypeMap, same_ids};
+ghost use Rattle.eco_archetypes.specs.Archetypes.{is_type, type_at, IsIdIndex, SameSlots, RowlessIn, SameRows, FindsRoom};
 ghost use Rattle.eco_archetypes.specs.Widths.{AreWidths, FitsIn, KeepsWidths, MeetsNeeds, StillCover};
 
 use eco_caches::Caches;
@@ -68,14 +68,14 @@ impl Model for Archetypes {
     ghost use Rattle.std.specs.Prelude.{List, Option};
     ghost use Rattle.eco_tables.specs.Table.{TableState};
     ghost use Rattle.eco_caches.specs.Contents.{cache_list};
-    ghost use Rattle.eco_index.specs.Contents.{edge_lists, lists_in, slots_by_type};
+    ghost use Rattle.eco_index.specs.Contents.{edge_lists, lists_in, slots_by_mark};
     ghost use Rattle.eco_archetypes.specs.Archetypes.{IsArchetypes};
 
     ghost Value = { List (Option TableState) };
 
     ghost view = { λ a. a.tables };
 
-    ghost invariant = { λ a. IsArchetypes a.tables (slots_by_type a.by_type) (lists_in a.by_id)
+    ghost invariant = { λ a. IsArchetypes a.tables (slots_by_mark a.by_type) (lists_in a.by_id)
         (edge_lists a.edges) (cache_list a.caches) };
 }
 
@@ -113,7 +113,7 @@ impl Archetypes {
         ensures none { IfNone result ((n : ℕ) → type_at self.old n ≢ Some type_list.now) }
         ensures same { self.new ≡ self.old }
     {
-        if self.has_type(self.last, type_list.as_slice()) {
+        if has_type(&self.tables, self.last, type_list.as_slice()) {
             return Some(self.last);
         }
         self.look_up(type_list)
@@ -126,20 +126,10 @@ impl Archetypes {
         ensures none { IfNone result ((n : ℕ) → type_at self.old n ≢ Some type_list.now) }
         ensures same { self.new ≡ self.old }
     {
-        let slot = self.by_type.find(type_list)?;
+        let slots = self.by_type.slots(type_list.mark());
+        let slot = first_of_type(&self.tables, slots, type_list.as_slice())?;
         self.last = slot;
         Some(slot)
-    }
-
-    // Whether there is a table in the slot, whose type has just these ids.
-    #[inline]
-    fn has_type(&self, slot: TableSlot, ids: &[Id]) -> bool
-        ensures { IsTrue result ↔ (type_at self.now slot ≡ Some ids.now) }
-    {
-        match self.tables.get(slot) {
-            Some(table) => are_same(table.type_list().as_slice(), ids),
-            None => false,
-        }
     }
 
     /// The slot of the table whose type has just these ids, and how many rows it has, where that type was asked for last and
@@ -150,7 +140,7 @@ impl Archetypes {
         ensures room { IfSome result (λ p. 0 < (table_in self.now p.0).room) }
         ensures row { IfSome result (λ p. p.1 ≡ length (table_in self.now p.0).rows) }
     {
-        if !self.has_type(self.last, ids) {
+        if !has_type(&self.tables, self.last, ids) {
             return None;
         }
         let table = self.tables.get(self.last)?;
@@ -226,17 +216,16 @@ impl Archetypes {
             → MeetsNeeds need self.old → MeetsNeeds need self.new) }
         ensures err { OnErr result (SameSlots self.old self.new) }
     {
-        let key = copied(&type_list, &mut self.by_type, &mut self.caches)?;
+        self.caches.reserve_one()?;
         let slot = insert(
             &mut self.tables,
+            &mut self.by_type,
             &mut self.by_id,
             self.alloc,
             type_list,
-            &key,
             widths,
         )?;
-        self.caches.tell(slot, &key);
-        self.by_type.insert_reserved(key, slot);
+        self.caches.tell(slot, type_in(&self.tables, slot));
         Ok(slot)
     }
 
@@ -265,7 +254,7 @@ impl Archetypes {
         ensures rows { SameRows self.old self.new }
     {
         if let Some(type_list) = self.tables.drop_empty(slot) {
-            self.by_type.remove(&type_list);
+            self.by_type.take(type_list.mark(), slot);
             self.by_id.take_all(type_list.as_slice(), slot);
             self.edges.cut(slot);
             self.caches.forget(slot);
@@ -377,27 +366,49 @@ fn type_in(tables: &Tables, slot: TableSlot) -> &TypeList
     tables.get(slot).unwrap().type_list()
 }
 
-// A table without rows in a slot that was empty, which is listed under the ids of its type. The key is the type once more.
+// Whether there is a table in the slot, whose type has just these ids.
+#[inline]
+fn has_type(tables: &Tables, slot: TableSlot, ids: &[Id]) -> bool
+    ensures { result ≡ is_type (type_at tables.now slot) ids.now }
+{
+    match tables.get(slot) {
+        Some(table) => are_same(table.type_list().as_slice(), ids),
+        None => false,
+    }
+}
+
+// The first of these slots that has a table whose type has just these ids.
+fn first_of_type(tables: &Tables, slots: &[TableSlot], ids: &[Id]) -> Option<TableSlot>
+    ensures { result ≡ find_first (λ n. is_type (type_at tables.now n) ids.now) slots.now }
+{
+    slots
+        .iter()
+        .copied()
+        .find(|slot| has_type(tables, *slot, ids))
+}
+
+// A table without rows in a slot that was empty, which is listed under its type and the ids of that.
 fn insert(
     tables: &mut Tables,
+    by_type: &mut TypeMap,
     by_id: &mut IdIndex,
     alloc: Global,
     type_list: TypeList,
-    key: &TypeList,
     widths: &[u8],
 ) -> Result<TableSlot, AllocError>
-    requires same { key.now ≡ type_list }
     requires lengths { length type_list ≡ length widths.now }
     requires widths { All (λ w. w ≤ FIELD_COUNT) widths.now }
+    requires types { IsTypeMap (type_at tables.old) (slots_by_mark by_type.old) }
     requires index { IsIdIndex (type_at tables.old) (lists_in by_id.old) }
     ensures vacant { IfOk result (λ n. slot_of tables.old n ≡ None) }
     ensures makes { IfOk result (λ n. SetsSlot tables.old tables.new n
         (Some (empty_table type_list widths.now))) }
     ensures err { OnErr result (SameSlots tables.old tables.new) }
+    ensures types { IsTypeMap (type_at tables.new) (slots_by_mark by_type.new) }
     ensures index { IsIdIndex (type_at tables.new) (lists_in by_id.new) }
 {
     let slot = tables.insert(type_list, widths)?;
-    match by_id.add_all(alloc, key.as_slice(), slot) {
+    match list(by_type, by_id, alloc, type_in(tables, slot), slot) {
         Ok(()) => Ok(slot),
         Err(refused) => {
             let _ = tables.drop_empty(slot);
@@ -406,31 +417,27 @@ fn insert(
     }
 }
 
-// The type once more, as a key for which there is room, as `reserve_one` makes it.
-fn copied(
-    type_list: &TypeList,
+// Lists a new table's slot under its type and the ids of that. An `Err` changes nothing that is listed.
+fn list(
     by_type: &mut TypeMap,
-    caches: &mut Caches,
-) -> Result<TypeList, AllocError>
-    ensures is { IfOk result (λ key. key ≡ type_list.now) }
-    ensures same { IsUnchanged (slots_by_type by_type.old) (slots_by_type by_type.new) }
-    ensures exact { StayExact (cache_list caches.old) (cache_list caches.new) }
-    ensures room { OnOk result (0 < spare (slots_by_type by_type.new)) }
-    ensures rooms { OnOk result (HaveRoom (cache_list caches.new)) }
+    by_id: &mut IdIndex,
+    alloc: Global,
+    type_list: &TypeList,
+    slot: TableSlot,
+) -> Result<(), AllocError>
+    requires types { (mark : ℕ) → slots_by_mark by_type.old mark slot ≡ false }
+    requires index { (p : Patterns) → lists_in by_id.old p slot ≡ false }
+    ensures types { OnOk result (Turns true (nat_eq (fingerprint type_list.now))
+        (slots_by_mark by_type.old) (slots_by_mark by_type.new) slot) }
+    ensures index { OnOk result (Turns true (any_matches type_list.now)
+        (lists_in by_id.old) (lists_in by_id.new) slot) }
+    ensures same_types { OnErr result (ListsSame (slots_by_mark by_type.old) (slots_by_mark by_type.new)) }
+    ensures same_index { OnErr result (ListsSame (lists_in by_id.old) (lists_in by_id.new)) }
 {
-    let key = type_list.try_copy()?;
-    reserve_one(by_type, caches)?;
-    Ok(key)
-}
-
-// Room for one type more, and for one slot more in each cache, so that both are told of a type without memory. No type's slot
-// changes, nor what the caches have, whether it succeeds or not.
-fn reserve_one(by_type: &mut TypeMap, caches: &mut Caches) -> Result<(), AllocError>
-    ensures same { IsUnchanged (slots_by_type by_type.old) (slots_by_type by_type.new) }
-    ensures exact { StayExact (cache_list caches.old) (cache_list caches.new) }
-    ensures room { OnOk result (0 < spare (slots_by_type by_type.new)) }
-    ensures rooms { OnOk result (HaveRoom (cache_list caches.new)) }
-{
-    by_type.reserve_one()?;
-    caches.reserve_one()
+    by_type.add(alloc, type_list.mark(), slot)?;
+    let listed = by_id.add_all(alloc, type_list.as_slice(), slot);
+    if listed.is_err() {
+        by_type.take(type_list.mark(), slot);
+    }
+    listed
 }

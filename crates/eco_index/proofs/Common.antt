@@ -29,7 +29,7 @@ pub use Rattle.eco_index.specs.IdIndex.{HasTurned, KeepsNoEmpty, KeepsRest, List
 pub use Rattle.eco_index.specs.IdIndex.{is_listed, is_only, is_own, key_of, keys_of, lists_of, matches_id, matches_some, own_count, pattern_of, same_key}
 pub use Rattle.eco_index.specs.IdIndex.{slots_of}
 pub use Rattle.eco_index.specs.Marks.{AreMarked, KeepsMarks, may_be_kept}
-pub use Rattle.eco_index.specs.TypeMap.{IsTypeMap, LeadAlike, LeadsAlone, same_ids}
+pub use Rattle.eco_index.specs.TypeMap.{IsTypeMap, is_but, same_ids, type_marked}
 pub use Rattle.eco_index.specs.declared.id_index.key.Key.{Key}
 pub use Rattle.eco_index.specs.declared.id_index.key.Key.TheVariants.{AnyPair, Pair, Relationship, Single, Target}
 pub use Rattle.eco_index.specs.declared.id_index.marks.Marks.{Marks}

@@ -1,8 +1,7 @@
 -- Lists of slots, each once.
 use Rattle.eco_index.proofs.Common.{◌≡◌, ℕ, zero, suc, ◌<◌, Bool, true, false, true≢false, cond, ◌||◌, nat_eq, List, [], ◌∷◌, ◌++◌}
 use Rattle.eco_index.proofs.Common.{filter, length, get_or, refl, sym, ap, ◌∙◌, arith, list_any, AllByRecursion, Decides-eqb}
-use Rattle.std.specs.List.{IsDistinct, list_all}
-use Rattle.eco_ids.proofs.Ascending.{both, first, second}
+use Rattle.std.specs.List.{IsDistinct}
 use Rattle.eco_ids.proofs.Facts.{or_left, or_right}
 
 -- what passes a test passes a weaker one
@@ -15,22 +14,6 @@ any_weaker p q weaker (x ∷ xs) h = by (p x) refl (any_weaker p q weaker xs) h
     by false is later h = or_right (q x) (list_any q xs) (later h)
 
 -- ---- lists of slots
-
--- where all are one, none is another
-pub all_one : (xs : List ℕ) (slot : ℕ) → list_all (nat_eq slot) xs ≡ true → (n : ℕ) → list_any (nat_eq n) xs ≡ true → n ≡ slot
-all_one [] slot all n there = absurd (true≢false (sym there))
-all_one (x ∷ xs) slot all n there = by (nat_eq n x) refl there (all_one xs slot (second (nat_eq slot x) _ all) n)
-  where
-    by : (b : Bool) → nat_eq n x ≡ b → (b || list_any (nat_eq n) xs) ≡ true → (list_any (nat_eq n) xs ≡ true → n ≡ slot) → n ≡ slot
-    by true is h later = (Decides-eqb n x).0 is ∙ sym ((Decides-eqb slot x).0 (first (nat_eq slot x) _ all))
-    by false is h later = later h
-
-pub one_all : (xs : List ℕ) (slot : ℕ) → ((n : ℕ) → list_any (nat_eq n) xs ≡ true → n ≡ slot) → list_all (nat_eq slot) xs ≡ true
-one_all [] slot one = refl
-one_all (x ∷ xs) slot one =
-    let here : x ≡ slot = one x (or_left (nat_eq x x) (list_any (nat_eq x) xs) ((Decides-eqb x x).1 refl)) in
-    both (nat_eq slot x) (list_all (nat_eq slot) xs) ((Decides-eqb slot x).1 (sym here))
-    (one_all xs slot (λ n there. one n (or_right (nat_eq n x) (list_any (nat_eq n) xs) there)))
 
 pub all_filtered : {X : Type 0} (P : X → Type 0) (p : X → Bool) (xs : List X) → AllByRecursion P xs → AllByRecursion P (filter p xs)
 all_filtered P p [] all = all

@@ -76,15 +76,7 @@ left_any stays ns left none empty are n =
     some true is = sym (none_in left (empty is))
     some false is = refl
 
--- an entry of the key that has the slot
-abbrev any_slot : Key → ℕ → Key × Slots → Bool
-any_slot k n e = same_key k e.0 && list_any (nat_eq n) (slots_of e.1)
-
-none_any : (k : Key) (n : ℕ) (es : List (Key × Slots)) → NonePasses (same_key k) es → list_any (any_slot k n) es ≡ false
-none_any k n [] none = refl
-none_any k n (e ∷ es) none = λ t. (none.0 t && list_any (nat_eq n) (slots_of e.1)) || none_any k n es none.1 t
-
-key-Decides : (a b : Key) → Decides (same_key a b) (a ≡ b)
+pub key-Decides : (a b : Key) → Decides (same_key a b) (a ≡ b)
 key-Decides a b = (keys_same a b, λ is. subst (λ c. same_key a c ≡ true) is (key_itself a))
   where
     itself : (e : Entity) → (entity_impl.eq-value).it e e ≡ true
@@ -96,19 +88,6 @@ key-Decides a b = (keys_same a b, λ is. subst (λ c. same_key a c ≡ true) is 
     key_itself (Relationship e) = itself e
     key_itself (Target e) = itself e
     key_itself AnyPair = refl
-
-listed_any : (k : Key) (n : ℕ) (es : List (Key × Slots)) → IsDistinct same_key (keys_of es)
-    → has_slot (lookup (same_key k) es) n ≡ list_any (any_slot k n) es
-listed_any k n [] distinct = refl
-listed_any k n (e ∷ es) distinct =
-    by (same_key k e.0) refl (listed_any k n es (IsDistinct-tail same_key e.0 (keys_of es) distinct))
-  where
-    by : (b : Bool) → same_key k e.0 ≡ b → has_slot (lookup (same_key k) es) n ≡ list_any (any_slot k n) es
-        → has_slot (cond b (Some e.1) (lookup (same_key k) es)) n ≡ ((b && list_any (nat_eq n) (slots_of e.1)) || list_any (any_slot k n) es)
-    by true is rest =
-        sym (ap (λ b. list_any (nat_eq n) (slots_of e.1) || b) (none_any k n es (none_past_head (equivalence same_key key-Decides) k e es distinct is))
-        ∙ or_false (list_any (nat_eq n) (slots_of e.1)))
-    by false is rest = rest
 
 distribute : (c v a s : Bool) → ((c && (v && s)) || (a && s)) ≡ (((c && v) || a) && s)
 distribute false v a s = refl
@@ -124,60 +103,82 @@ none_stays true true true false h = refl
 none_stays true true false false h = refl
 none_stays true true a true h = absurd (true≢false (sym h))
 
--- a closure keeps of the slots of each key those that pass the test, and the key where one is left
-module _ {F : Type 0} (T : F → Key → Slots → Bool → Slots → F → Type 0) (stays : ℕ → Bool) (f : F)
-    (each : (k : Key) (v : Slots) (b : Bool) (w : Slots) (f' : F) → T f k v b w f'
-    → ((n : ℕ) → (b && list_any (nat_eq n) (slots_of w)) ≡ (list_any (nat_eq n) (slots_of v) && stays n))
-    × (b ≡ true → is_empty (Some w) ≡ false) × (f' ≡ f)) where
-  swept_any : (es kept : List (Key × Slots)) → RetainsPairs T f es kept → (k : Key) (n : ℕ)
-      → list_any (any_slot k n) kept ≡ (list_any (any_slot k n) es && stays n)
-  swept_any [] kept is k n = ap (list_any (any_slot k n)) is
-  swept_any (e ∷ es) kept (b, w, f', rest, call, after, is) k n =
-      let own = each e.0 e.1 b w f' call in
-      ap (list_any (any_slot k n)) is
-      ∙ by b (own.0 n) (swept_any es rest (subst (λ g. RetainsPairs T g es rest) own.2 after) k n)
-    where
-      by : (b : Bool) → (b && list_any (nat_eq n) (slots_of w)) ≡ (list_any (nat_eq n) (slots_of e.1) && stays n)
-          → list_any (any_slot k n) rest ≡ (list_any (any_slot k n) es && stays n)
-          → list_any (any_slot k n) (cond b ((e.0, w) ∷ rest) rest) ≡ (list_any (any_slot k n) (e ∷ es) && stays n)
-      by true own later =
-          (λ t. (same_key k e.0 && own t) || later t)
-          ∙ distribute (same_key k e.0) (list_any (nat_eq n) (slots_of e.1)) (list_any (any_slot k n) es) (stays n)
-      by false own later =
-          later ∙ none_stays (same_key k e.0) (list_any (nat_eq n) (slots_of e.1)) (list_any (any_slot k n) es) (stays n) own
+module _ {K : Type 0} (eq : K → K → Bool) (dec : (a b : K) → Decides (eq a b) (a ≡ b)) where
+  -- an entry of the key that has the slot
+  abbrev any_slot : K → ℕ → K × Slots → Bool
+  any_slot k n e = eq k e.0 && list_any (nat_eq n) (slots_of e.1)
 
-  -- a key that was not kept is not kept
-  pub swept_absent : (es kept : List (Key × Slots)) → RetainsPairs T f es kept → (k : Key) → lookup (same_key k) es ≡ None → lookup (same_key k) kept ≡ None
-  swept_absent [] kept is k none = ap (lookup (same_key k)) is
-  swept_absent (e ∷ es) kept (b, w, f', rest, call, after, is) k none =
-      ap (lookup (same_key k)) is
-      ∙ by (same_key k e.0) b none refl (swept_absent es rest (subst (λ g. RetainsPairs T g es rest) (each e.0 e.1 b w f' call).2 after) k)
-    where
-      by : (c b : Bool) → cond c (Some e.1) (lookup (same_key k) es) ≡ None → same_key k e.0 ≡ c
-          → (lookup (same_key k) es ≡ None → lookup (same_key k) rest ≡ None)
-          → lookup (same_key k) (cond b ((e.0, w) ∷ rest) rest) ≡ None
-      by true b none is later = cc
-      by false true none is later = ap (λ c. cond c (Some w) (lookup (same_key k) rest)) is ∙ later none
-      by false false none is later = later none
+  none_any : (k : K) (n : ℕ) (es : List (K × Slots)) → NonePasses (eq k) es → list_any (any_slot k n) es ≡ false
+  none_any k n [] none = refl
+  none_any k n (e ∷ es) none = λ t. (none.0 t && list_any (nat_eq n) (slots_of e.1)) || none_any k n es none.1 t
 
-  -- each key that is kept has a slot
-  pub swept_filled : (es kept : List (Key × Slots)) → RetainsPairs T f es kept → (k : Key) → is_empty (lookup (same_key k) kept) ≡ false
-  swept_filled [] kept is k = ap (λ xs. is_empty (lookup (same_key k) xs)) is
-  swept_filled (e ∷ es) kept (b, w, f', rest, call, after, is) k =
-      let own = each e.0 e.1 b w f' call in
-      ap (λ xs. is_empty (lookup (same_key k) xs)) is
-      ∙ by b (same_key k e.0) own.1 refl (swept_filled es rest (subst (λ g. RetainsPairs T g es rest) own.2 after) k)
+  listed_any : (k : K) (n : ℕ) (es : List (K × Slots)) → IsDistinct eq (keys_of es)
+      → has_slot (lookup (eq k) es) n ≡ list_any (any_slot k n) es
+  listed_any k n [] distinct = refl
+  listed_any k n (e ∷ es) distinct =
+      by (eq k e.0) refl (listed_any k n es (IsDistinct-tail eq e.0 (keys_of es) distinct))
     where
-      by : (b c : Bool) → (b ≡ true → is_empty (Some w) ≡ false) → same_key k e.0 ≡ c → is_empty (lookup (same_key k) rest) ≡ false
-          → is_empty (lookup (same_key k) (cond b ((e.0, w) ∷ rest) rest)) ≡ false
-      by true true full is later = ap (λ c. is_empty (cond c (Some w) (lookup (same_key k) rest))) is ∙ full refl
-      by true false full is later = ap (λ c. is_empty (cond c (Some w) (lookup (same_key k) rest))) is ∙ later
-      by false c full is later = later
+      by : (b : Bool) → eq k e.0 ≡ b → has_slot (lookup (eq k) es) n ≡ list_any (any_slot k n) es
+          → has_slot (cond b (Some e.1) (lookup (eq k) es)) n ≡ ((b && list_any (nat_eq n) (slots_of e.1)) || list_any (any_slot k n) es)
+      by true is rest =
+          sym (ap (λ b. list_any (nat_eq n) (slots_of e.1) || b) (none_any k n es (none_past_head (equivalence eq dec) k e es distinct is))
+          ∙ or_false (list_any (nat_eq n) (slots_of e.1)))
+      by false is rest = rest
 
-  pub swept_listed : (es kept : List (Key × Slots)) → IsDistinct same_key (keys_of es) → IsDistinct same_key (keys_of kept) → RetainsPairs T f es kept
-      → (k : Key) (n : ℕ) → has_slot (lookup (same_key k) kept) n ≡ (has_slot (lookup (same_key k) es) n && stays n)
-  swept_listed es kept before after retains k n =
-      listed_any k n kept after ∙ swept_any es kept retains k n ∙ ap (λ b. b && stays n) (sym (listed_any k n es before))
+  -- a closure keeps of the slots of each key those that pass the test, and the key where one is left
+  module _ {F : Type 0} (T : F → K → Slots → Bool → Slots → F → Type 0) (stays : ℕ → Bool) (f : F)
+      (each : (k : K) (v : Slots) (b : Bool) (w : Slots) (f' : F) → T f k v b w f'
+      → ((n : ℕ) → (b && list_any (nat_eq n) (slots_of w)) ≡ (list_any (nat_eq n) (slots_of v) && stays n))
+      × (b ≡ true → is_empty (Some w) ≡ false) × (f' ≡ f)) where
+    swept_any : (es kept : List (K × Slots)) → RetainsPairs T f es kept → (k : K) (n : ℕ)
+        → list_any (any_slot k n) kept ≡ (list_any (any_slot k n) es && stays n)
+    swept_any [] kept is k n = ap (list_any (any_slot k n)) is
+    swept_any (e ∷ es) kept (b, w, f', rest, call, after, is) k n =
+        let own = each e.0 e.1 b w f' call in
+        ap (list_any (any_slot k n)) is
+        ∙ by b (own.0 n) (swept_any es rest (subst (λ g. RetainsPairs T g es rest) own.2 after) k n)
+      where
+        by : (b : Bool) → (b && list_any (nat_eq n) (slots_of w)) ≡ (list_any (nat_eq n) (slots_of e.1) && stays n)
+            → list_any (any_slot k n) rest ≡ (list_any (any_slot k n) es && stays n)
+            → list_any (any_slot k n) (cond b ((e.0, w) ∷ rest) rest) ≡ (list_any (any_slot k n) (e ∷ es) && stays n)
+        by true own later =
+            (λ t. (eq k e.0 && own t) || later t)
+            ∙ distribute (eq k e.0) (list_any (nat_eq n) (slots_of e.1)) (list_any (any_slot k n) es) (stays n)
+        by false own later =
+            later ∙ none_stays (eq k e.0) (list_any (nat_eq n) (slots_of e.1)) (list_any (any_slot k n) es) (stays n) own
+
+    -- a key that was not kept is not kept
+    pub swept_absent : (es kept : List (K × Slots)) → RetainsPairs T f es kept → (k : K) → lookup (eq k) es ≡ None → lookup (eq k) kept ≡ None
+    swept_absent [] kept is k none = ap (lookup (eq k)) is
+    swept_absent (e ∷ es) kept (b, w, f', rest, call, after, is) k none =
+        ap (lookup (eq k)) is
+        ∙ by (eq k e.0) b none refl (swept_absent es rest (subst (λ g. RetainsPairs T g es rest) (each e.0 e.1 b w f' call).2 after) k)
+      where
+        by : (c b : Bool) → cond c (Some e.1) (lookup (eq k) es) ≡ None → eq k e.0 ≡ c
+            → (lookup (eq k) es ≡ None → lookup (eq k) rest ≡ None)
+            → lookup (eq k) (cond b ((e.0, w) ∷ rest) rest) ≡ None
+        by true b none is later = cc
+        by false true none is later = ap (λ c. cond c (Some w) (lookup (eq k) rest)) is ∙ later none
+        by false false none is later = later none
+
+    -- each key that is kept has a slot
+    pub swept_filled : (es kept : List (K × Slots)) → RetainsPairs T f es kept → (k : K) → is_empty (lookup (eq k) kept) ≡ false
+    swept_filled [] kept is k = ap (λ xs. is_empty (lookup (eq k) xs)) is
+    swept_filled (e ∷ es) kept (b, w, f', rest, call, after, is) k =
+        let own = each e.0 e.1 b w f' call in
+        ap (λ xs. is_empty (lookup (eq k) xs)) is
+        ∙ by b (eq k e.0) own.1 refl (swept_filled es rest (subst (λ g. RetainsPairs T g es rest) own.2 after) k)
+      where
+        by : (b c : Bool) → (b ≡ true → is_empty (Some w) ≡ false) → eq k e.0 ≡ c → is_empty (lookup (eq k) rest) ≡ false
+            → is_empty (lookup (eq k) (cond b ((e.0, w) ∷ rest) rest)) ≡ false
+        by true true full is later = ap (λ c. is_empty (cond c (Some w) (lookup (eq k) rest))) is ∙ full refl
+        by true false full is later = ap (λ c. is_empty (cond c (Some w) (lookup (eq k) rest))) is ∙ later
+        by false c full is later = later
+
+    pub swept_listed : (es kept : List (K × Slots)) → IsDistinct eq (keys_of es) → IsDistinct eq (keys_of kept) → RetainsPairs T f es kept
+        → (k : K) (n : ℕ) → has_slot (lookup (eq k) kept) n ≡ (has_slot (lookup (eq k) es) n && stays n)
+    swept_listed es kept before after retains k n =
+        listed_any k n kept after ∙ swept_any es kept retains k n ∙ ap (λ b. b && stays n) (sym (listed_any k n es before))
 
 -- ---- edges
 

@@ -65,18 +65,3 @@ toggled_other ids i same = way (has_item id_cmp ids i) ⊥
     let there : has_item id_cmp (toggled ids i) i ≡ true = ap (λ xs. has_item id_cmp xs i) one ∙ join.joins ids i i
     ∙ ap (λ b. b || has_item id_cmp ids i) (is_itself i) in
     true≢false (sym there ∙ ap (λ xs. has_item id_cmp xs i) same ∙ lacks))
-
-module _ (ids : List Id) (i : Id) (lacks : has_item id_cmp ids i ≡ false) where
-  grown : toggled ids i ≡ with_item id_cmp ids i
-  grown = ap (λ b. cond b (without_item id_cmp ids i) (with_item id_cmp ids i)) lacks
-
-  -- an id that came makes another type of one that lacked it
-  pub grown_other : with_item id_cmp ids i ≢ ids
-  grown_other same = toggled_other ids i (grown ∙ same)
-
-  -- and goes again
-  pub lost_again : IsTrue (is_ascending id_cmp ids) → without_item id_cmp (with_item id_cmp ids i) i ≡ ids
-  lost_again up =
-      let more = with_item id_cmp ids i in
-      let there : has_item id_cmp more i ≡ true = join.joins ids i i ∙ ap (λ b. b || has_item id_cmp ids i) (is_itself i) in
-      sym (ap (λ b. cond b (without_item id_cmp more i) (with_item id_cmp more i)) there) ∙ ap (λ xs. toggled xs i) (sym grown) ∙ twice ids i up

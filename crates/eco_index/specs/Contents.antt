@@ -1,16 +1,15 @@
 -- What contracts see of the indices: what they keep.
-use Rattle.std.specs.Prelude.{ℕ, List}
-use Rattle.std.specs.HashMap.{HashMap}
+use Rattle.std.specs.Prelude.{ℕ, Bool, List, nat_eq}
+use Rattle.std.specs.HashMap.{get}
 use Rattle.eco_ids.specs.declared.id.Id.{Id}
 use Rattle.eco_index.specs.declared.edges.Edges.{Edges}
 use Rattle.eco_index.specs.declared.id_index.IdIndex.{IdIndex}
-use Rattle.eco_index.specs.declared.seed.Seed.{Seed}
 use Rattle.eco_index.specs.declared.type_map.TypeMap.{TypeMap}
-use Rattle.eco_index.specs.IdIndex.{Lists, lists_of}
+use Rattle.eco_index.specs.IdIndex.{Lists, has_slot, lists_of}
 
--- the slot of each type
-abbrev pub slots_by_type : TypeMap → HashMap (List Id) ℕ Seed
-slots_by_type m = m.slots
+-- the slots that are listed under each fingerprint
+abbrev pub slots_by_mark : TypeMap → ℕ → ℕ → Bool
+slots_by_mark t mark n = has_slot (get nat_eq t.slots mark) n
 
 -- the slots that are listed under each pattern
 abbrev pub lists_in : IdIndex → Lists

@@ -29,16 +29,16 @@ abbrev pub Lists : Type 0
 Lists = Pattern → ℕ → Bool
 
 -- no slot is listed
-abbrev pub ListsNone : Lists → Type 0
-ListsNone now = (p : Pattern) (n : ℕ) → now p n ≡ false
+abbrev pub ListsNone : {P : Type 0} → (P → ℕ → Bool) → Type 0
+ListsNone {P} now = (p : P) (n : ℕ) → now p n ≡ false
 
 -- the same slots are listed under each pattern
-abbrev pub ListsSame : Lists → Lists → Type 0
-ListsSame old new = (p : Pattern) (n : ℕ) → new p n ≡ old p n
+abbrev pub ListsSame : {P : Type 0} → (P → ℕ → Bool) → (P → ℕ → Bool) → Type 0
+ListsSame {P} old new = (p : P) (n : ℕ) → new p n ≡ old p n
 
 -- the slot is listed, or not, under each pattern that the test picks; all else stays
-abbrev pub Turns : Bool → (Pattern → Bool) → Lists → Lists → ℕ → Type 0
-Turns b picks old new slot = (p : Pattern) (n : ℕ) → new p n ≡ cond (picks p && nat_eq slot n) b (old p n)
+abbrev pub Turns : {P : Type 0} → Bool → (P → Bool) → (P → ℕ → Bool) → (P → ℕ → Bool) → ℕ → Type 0
+Turns {P} b picks old new slot = (p : P) (n : ℕ) → new p n ≡ cond (picks p && nat_eq slot n) b (old p n)
 
 -- under the patterns that the test does not pick, and for other slots, nothing changed
 abbrev pub KeepsRest : (Pattern → Bool) → Lists → Lists → ℕ → Type 0

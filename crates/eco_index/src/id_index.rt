@@ -1,10 +1,10 @@
 //! For each pattern, the slots of the tables whose types have an id that it matches.
-ghost use Rattle.std.specs.Prelude.{◌≡◌, ◌↔◌, ◌<◌, ◌≤◌, ℕ, Some, None, IsTrue, true, false, nat_eq};
+ghost use Rattle.std.specs.Prelude.{◌≡◌, ◌<◌, ◌≤◌, ℕ, Some, None, true, false, nat_eq};
 ghost use Rattle.std.specs.Prelude.{not, slice_get, take, IfOk, OnOk, OnErr, IfSome, IfNone};
 ghost use Rattle.std.specs.Option.{option_copied, option_map};
 ghost use Rattle.std.specs.HashMap.{get, Updates};
 ghost use Rattle.indexmap.specs.IndexMap.{index_map_len};
-ghost use Rattle.std.specs.List.{list_all, list_any, IsDistinct};
+ghost use Rattle.std.specs.List.{list_any, IsDistinct};
 ghost use Rattle.eco_ids.specs.Matching.{pattern_matches};
 ghost use Rattle.eco_ids.specs.declared.pattern.Pattern.{Pattern as Patterns};
 ghost use Rattle.eco_ids.specs.declared.id.Id.TheVariants.{Two};
@@ -28,7 +28,7 @@ mod names;
 mod numbers;
 mod shortest;
 mod slot_list;
-mod slots;
+pub(crate) mod slots;
 mod sweeping;
 mod turning;
 
@@ -107,13 +107,6 @@ impl IdIndex {
             Id::One(entity) => self.listed(Key::Single(entity)),
             Id::Two(relationship, target) => self.listed(Key::Pair(relationship, target)),
         }
-    }
-
-    /// Whether no other slot than this one is listed under the id.
-    pub fn is_alone(&self, id: Id, slot: TableSlot) -> bool
-        ensures { IsTrue result ↔ ((n : ℕ) → lists_in self.now (exactly id) n ≡ true → n ≡ slot) }
-    {
-        are_only(self.own(id), slot)
     }
 
     // The slots that are listed under the key, if there are any. Most entities are in no type, so mostly the marks tell.
@@ -356,13 +349,6 @@ impl IdIndex {
             before = Some(*id);
         }
     }
-}
-
-// Whether all of them are this slot.
-fn are_only(slots: &[TableSlot], slot: TableSlot) -> bool
-    ensures { result ≡ list_all (nat_eq slot) slots.now }
-{
-    slots.iter().all(|own| slot == *own)
 }
 
 // The keys of the patterns that match a pair.

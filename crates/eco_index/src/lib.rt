@@ -1,9 +1,9 @@
 //! What finds the tables of a store by keys: indices over the slots in which tables stand, none of which owns a table (Flecs
 //! manual, Quickstart: entities with the same components stand together in an archetype table).
 //!
-//! A type leads to its slot ([`TypeMap`]), an id that comes or goes leads from a slot to the next ([`Edges`]), and a pattern to
-//! the slots of the types that have an id which it matches ([`IdIndex`]). Who asks for more than a pattern asks by a
-//! [`TypeTest`].
+//! The fingerprint of a type leads to the slots of the tables whose types have it ([`TypeMap`]), an id that comes or goes leads
+//! from a slot to the next ([`Edges`]), and a pattern to the slots of the types that have an id which it matches ([`IdIndex`]).
+//! Who asks for more than a pattern asks by a [`TypeTest`].
 #![tactic(auto)]
 
 mod edges;

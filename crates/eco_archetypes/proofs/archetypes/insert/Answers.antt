@@ -1,37 +1,16 @@
-use Rattle.eco_archetypes.proofs.Common.{true, option_map, subst, ap, ◌∙◌, TableState, Turns, any_matches, lists_of, SameSlots, type_at, type_matches}
+use Rattle.eco_archetypes.proofs.Common.{◌≡◌, true, nat_eq, option_map, refl, subst, sym, ap, ◌∙◌, same_Some, fingerprint, TableState, Turns, type_at}
+use Rattle.eco_archetypes.proofs.Common.{type_marked}
+use Rattle.eco_index.specs.Contents.{slots_by_mark}
 use Rattle.eco_archetypes.proofs.ArchetypeLemmas.{changes_type, index_made}
-use Rattle.eco_archetypes.proofs.Makings.{unmade}
-use Rattle.eco_archetypes.proofs.Turnings.{index_slots}
 use Rattle.eco_archetypes.proofs.archetypes.insert.Goals as goal
 
-pub add_all-requires : goal.add_all-requires
-add_all-requires c = λ p.
-    c.requires.index p c.in_ok-slot.slot
-    ∙ ap (λ o. type_matches (option_map (λ (t : TableState). t.ids) o) p) c.in_ok-slot.ensures.vacant
-
-pub returns-in-Ok-clause-index : goal.returns-in-Ok-clause-index
-returns-in-Ok-clause-index c =
+pub returns-in-Ok-clause-types : goal.returns-in-Ok-clause-types
+returns-in-Ok-clause-types c =
     let s = c.args.tables.now in
     let s1 = c.insert.new.self in
-    let ids = c.args.type_list in
     let n = c.in_ok-slot.slot in
-    let l = lists_of c.args.by_id.now.slots in
-    let l1 = lists_of c.add_all.new.self.slots in
     let changes = changes_type s s1 n _ c.in_ok-slot.ensures.sets in
-    let own = c.as_slice.ensures.ids ∙ c.requires.same in
-    index_made (type_at s) (type_at s1) l l1 n ids changes.others c.requires.index changes.there
-    (ap (option_map (λ (t : TableState). t.ids)) c.in_ok-slot.ensures.vacant)
-    (subst (λ xs. Turns true (any_matches xs) l l1 n) own c.in-Ok.ensures.ok)
-
-left_alone : (c : goal.Joined-drop_empty) → SameSlots c.args.tables.now c.drop_empty.new.self
-left_alone c =
-    unmade c.args.tables.now c.insert.new.self c.drop_empty.new.self c.in_ok-slot.slot c.args.type_list c.args.widths.now c.in_ok-slot.ensures.vacant
-    c.in_ok-slot.ensures.sets (rw c.drop_empty.ensures.answer at c.drop_empty.ensures.dropped)
-
-pub returns-in-Err-clause-err : goal.returns-in-Err-clause-err
-returns-in-Err-clause-err c = left_alone c
-
-pub returns-in-Err-clause-index : goal.returns-in-Err-clause-index
-returns-in-Err-clause-index c =
-    index_slots c.args.tables.now c.drop_empty.new.self (lists_of c.args.by_id.now.slots) (lists_of c.add_all.new.self.slots) c.requires.index
-    (left_alone c) c.in-Err.ensures.err
+    let own : c.type_in.result.now ≡ c.args.type_list = same_Some _ _ (sym c.type_in.ensures.typed ∙ changes.there) in
+    index_made type_marked (type_at s) (type_at s1) (slots_by_mark c.args.by_type.now) (slots_by_mark c.list.new.by_type) n c.requires.types
+    changes.others c.args.type_list (λ f. refl) changes.there (ap (option_map (λ (t : TableState). t.ids)) c.in_ok-slot.ensures.vacant)
+    (subst (λ ids. Turns true (nat_eq (fingerprint ids)) (slots_by_mark c.args.by_type.now) (slots_by_mark c.list.new.by_type) n) own c.in-Ok.ensures.types)

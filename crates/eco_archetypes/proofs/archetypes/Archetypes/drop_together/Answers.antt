@@ -1,10 +1,12 @@
 use Rattle.eco_archetypes.proofs.Common.{lists_of}
+use Rattle.eco_index.specs.Contents.{slots_by_mark}
 use Rattle.eco_archetypes.proofs.Sweeping.{found_swept}
 use Rattle.eco_archetypes.proofs.archetypes.Archetypes.drop_together.Goals as goal
 
 pub invariant_of-self : goal.invariant_of-self
 invariant_of-self c =
     let own = c.self.inside in
-    found_swept own.tables c.drop_tables.new.tables c.drop_tables.ensures.less own.by_type.slots c.keep_there.new.self.slots
+    found_swept own.tables c.drop_tables.new.tables c.drop_tables.ensures.less (slots_by_mark own.by_type)
+    (slots_by_mark c.keep_there.new.self)
     (lists_of own.by_id.slots) (lists_of c.keep_there-2.new.self.slots) own.edges.lists.items c.keep_there-3.new.self.lists.items c.self.invariant
     c.keep_there.ensures c.keep_there-2.ensures c.keep_there-3.ensures (c.drop_tables.ensures.exact c.self.invariant.cached)

@@ -1,115 +1,43 @@
-use Rattle.eco_archetypes.proofs.Common.{◌≡◌, ℕ, [], IfNone, IfSome, option_map, refl, ap, sym, subst, ◌∙◌, lookup, need, id_cmp, has_item}
-use Rattle.eco_archetypes.proofs.Common.{TableState, slot_of, table_in, LeadAlike, LeadsGrown, TakesGrown, same_ids, exact_types, then_told, TakesType, type_at}
-use Rattle.eco_archetypes.proofs.ArchetypeLemmas.{found_alike, found_ready, type_there}
-use Rattle.eco_archetypes.proofs.Turnings.{found_turned, grown_back, grown_in, grown_is, grown_new, grown_taken, led_type}
+use Rattle.eco_archetypes.proofs.Common.{◌≡◌, ℕ, Some, option_map, refl, ap, sym, subst, ◌∙◌, same_Some, id_cmp, has_item, with_item, fingerprint}
+use Rattle.eco_archetypes.proofs.Common.{TableState, table_in, exact_types, then_told, TakesType, marks_back, type_at}
+use Rattle.eco_index.specs.Contents.{slots_by_mark}
+use Rattle.eco_archetypes.proofs.ArchetypeLemmas.{found_kept, found_ready}
+use Rattle.eco_archetypes.proofs.Turnings.{found_turned}
 use Rattle.eco_archetypes.proofs.archetypes.Archetypes.gain_alone.Goals as goal
 
 pub invariant_of-self : goal.invariant_of-self
-invariant_of-self c = found_ready c.self.invariant c.make_ready.ensures.same c.make_ready.ensures.exact
+invariant_of-self c = found_ready c.self.invariant (λ p n. refl) c.reserve_one.ensures.same
 
-pub place_of-place-requires : goal.place_of-place-requires
-place_of-place-requires c =
-    let old = c.type_in-old.result.now in
-    ap (lookup (same_ids old)) c.make_ready.ensures.same ∙ c.self.invariant.types.there old c.args.slot c.type_in-old.ensures.typed
-
-pub take_with-requires-clause-lacks : goal.take_with-requires-clause-lacks
-take_with-requires-clause-lacks c = λ t led.
-    let had = type_there c.self.inside.tables c.args.slot (rw (← c.self.view_is) at c.requires.there) in
-    ap (λ xs. has_item id_cmp xs c.args.id)
-    (led_type c.self.inside.tables c.self.inside.by_type.slots c.make_ready.new.by_type.slots c.self.inside.by_type.slots c.args.slot c.args.id _ t
-    c.self.invariant.types c.make_ready.ensures.same had t led)
-    ∙ (rw (← c.self.view_is) at c.requires.lacks)
-
-pub invariant_of-self-in_err-type_list : goal.invariant_of-self-in_err-type_list
-invariant_of-self-in_err-type_list c =
-    found_alike c.self.invariant (λ k. refl)
-    (λ t. c.in_err-type_list.ensures.err t ∙ ap (lookup (same_ids t)) c.make_ready.ensures.same) c.self.invariant.matches c.self.invariant.agreed
-    (c.make_ready.ensures.exact (type_at c.self.inside.tables) c.self.invariant.cached)
-
-pub invariant_of-self-in_default : goal.invariant_of-self-in_default
-invariant_of-self-in_default c =
-    let alike : LeadAlike c.make_ready.new.by_type.slots c.take_with.new.self.slots =
-    subst (λ o. IfNone o (LeadAlike c.make_ready.new.by_type.slots c.take_with.new.self.slots)) c.in_default.is c.in_ok-type_list.ensures.alike in
-    found_alike c.self.invariant (λ k. refl) (λ t. alike t ∙ ap (lookup (same_ids t)) c.make_ready.ensures.same)
-    c.self.invariant.matches c.self.invariant.agreed (c.make_ready.ensures.exact (type_at c.self.inside.tables) c.self.invariant.cached)
+pub invariant_of-self-in_err-add : goal.invariant_of-self-in_err-add
+invariant_of-self-in_err-add c = found_ready c.self.invariant c.in_err-add.ensures.err c.reserve_one.ensures.same
 
 pub invariant_of-self-in-Err : goal.invariant_of-self-in-Err
 invariant_of-self-in-Err c =
-    let had = type_there c.self.inside.tables c.args.slot (rw (← c.self.view_is) at c.requires.there) in
     let s = c.self.inside.tables in
-    let m = c.self.inside.by_type.slots in
-    let ids = (table_in s c.args.slot).ids in
-    let takes : TakesGrown c.make_ready.new.by_type.slots c.take_with.new.self.slots c.args.slot c.args.id c.in-Some.type_list =
-    subst (λ o. IfSome o (TakesGrown c.make_ready.new.by_type.slots c.take_with.new.self.slots c.args.slot c.args.id)) c.in-Some.is
-    c.in_ok-type_list.ensures.taken in
+    let n = c.args.slot in
+    let old = c.type_in-old.result.now in
+    let lacks = ap (λ ids. has_item id_cmp ids c.args.id) c.type_in-old.ensures.ids ∙ (rw (← c.self.view_is) at c.requires.lacks) in
+    let grown : c.mark_with-grown.result ≡ fingerprint (with_item id_cmp old c.args.id) = c.mark_with-grown.ensures lacks in
     let types : (k : ℕ) → type_at c.gain.new.tables k ≡ type_at s k = λ k. ap (option_map (λ (t : TableState). t.ids)) (c.in-Err.ensures.err k) in
-    found_alike c.self.invariant types
-    (grown_back s m c.make_ready.new.by_type.slots c.take_with.new.self.slots c.args.slot c.args.id ids c.in-Some.type_list
-    c.self.invariant.types c.make_ready.ensures.same
-    had takes c.insert_reserved.new.self.slots c.remove.new.self c.remove.ensures.is (rw (← c.self.view_is) at c.requires.lacks)
-    (rw c.type_in-old.ensures.ids at c.as_slice-ids.ensures.ascending) c.insert_reserved.ensures)
-    c.gain.ensures.index c.gain.ensures.agreed (exact_types _ _ _ types (c.make_ready.ensures.exact (type_at s) c.self.invariant.cached))
+    let had = c.type_in-old.ensures.typed in
+    found_kept c.self.invariant types
+    (marks_back (type_at s) (type_at c.gain.new.tables) (slots_by_mark c.self.inside.by_type) (slots_by_mark c.add.new.self) (slots_by_mark c.leave.new.self)
+    n old (with_item id_cmp old c.args.id) c.self.invariant.types had (λ k other. types k) (rw grown at c.in_ok-add.ensures.ok) (types n ∙ had)
+    (rw (grown, c.mark-mark.ensures) at c.leave.ensures))
+    c.gain.ensures.index c.gain.ensures.agreed (exact_types _ _ _ types (c.reserve_one.ensures.same (type_at s) c.self.invariant.cached))
 
 pub invariant_of-self-2 : goal.invariant_of-self-2
 invariant_of-self-2 c =
-    let had = type_there c.self.inside.tables c.args.slot (rw (← c.self.view_is) at c.requires.there) in
     let s = c.self.inside.tables in
-    let m = c.self.inside.by_type.slots in
-    let ready_map = c.make_ready.new.by_type.slots in
-    let left = c.take_with.new.self.slots in
-    let ids = (table_in s c.args.slot).ids in
-    let grown = c.in-Some.type_list in
-    let types = c.self.invariant.types in
-    let takes : TakesGrown ready_map left c.args.slot c.args.id grown =
-    subst (λ o. IfSome o (TakesGrown ready_map left c.args.slot c.args.id)) c.in-Some.is c.in_ok-type_list.ensures.taken in
-    let turns : TakesType s c.gain.new.tables c.args.slot grown =
-    subst (TakesType s c.gain.new.tables c.args.slot)
-    (sym (grown_is s m ready_map left c.args.slot c.args.id ids grown types c.make_ready.ensures.same had takes)) c.in_default-gain.ensures.ok in
-    found_turned c.self.invariant had turns
-    (grown_new s m ready_map left c.args.slot c.args.id ids grown types c.make_ready.ensures.same had takes)
-    (grown_in s m ready_map left c.args.slot c.args.id ids grown types c.make_ready.ensures.same had takes
-    c.insert_reserved-2.new.self.slots c.insert_reserved-2.ensures)
-    c.gain.ensures.index c.cut.ensures c.gain.ensures.agreed (then_told _ _ _ _ _ c.make_ready.ensures.exact c.tell.ensures.told)
-
-pub returns-in_default-clause-refused : goal.returns-in_default-clause-refused
-returns-in_default-clause-refused c =
-    let s = c.self.inside.tables in
-    let ready_map = c.make_ready.new.by_type.slots in
-    let had = type_there s c.args.slot (rw (← c.self.view_is) at c.requires.there) in
-    let led : LeadsGrown ready_map c.args.slot c.args.id =
-    subst (λ o. IfNone o (LeadsGrown ready_map c.args.slot c.args.id)) c.in_default.is c.in_ok-type_list.ensures.none in
-    rw (← c.self.view_is)
-    (λ no. grown_taken s c.self.inside.by_type.slots ready_map ready_map c.args.slot c.args.id _ [] c.self.invariant.types c.make_ready.ensures.same had led)
-
-pub returns-in_default-clause-ok : goal.returns-in_default-clause-ok
-returns-in_default-clause-ok c = λ k. ap (λ s. slot_of s k) c.self.view_is
-
-pub returns-in_default-clause-widths : goal.returns-in_default-clause-widths
-returns-in_default-clause-widths c = λ covers. rw c.self.view_is covers
-
-pub gain-requires : goal.gain-requires
-gain-requires c = record {
-  there = rw (← c.self.view_is) at c.requires.there;
-  lacks = rw (← c.self.view_is) at c.requires.lacks;
-  index = c.self.invariant.matches;
-  agreed = c.self.invariant.agreed;
-  few = c.width_of-width.ensures.few;
-  width = rw (← c.self.view_is) at c.width_of-width.ensures.agrees;
-}
-
-pub returns-in-Err-clause-err : goal.returns-in-Err-clause-err
-returns-in-Err-clause-err c = rw (← c.self.view_is) c.in-Err.ensures.err
-
-pub returns-in-Err-clause-widths : goal.returns-in-Err-clause-widths
-returns-in-Err-clause-widths c = λ covers.
-    c.gain.ensures.widths (need c.args.entities.now) (c.width_of-width.ensures.covers covers) (rw (← c.self.view_is) at covers)
-
-pub returns-clause-ok : goal.returns-clause-ok
-returns-clause-ok c = rw (← c.self.view_is) (c.in_default-gain.ensures.ok, rw (← c.self.view_is) at c.requires.alone)
-
-pub returns-clause-refused : goal.returns-clause-refused
-returns-clause-refused c = λ no. absurd (cc)
-
-pub returns-clause-widths : goal.returns-clause-widths
-returns-clause-widths c = λ covers.
-    c.gain.ensures.widths (need c.args.entities.now) (c.width_of-width.ensures.covers covers) (rw (← c.self.view_is) at covers)
+    let old = c.type_in-old.result.now in
+    let new = c.type_in.result.now in
+    let is : new ≡ with_item id_cmp (table_in s c.args.slot).ids c.args.id =
+    same_Some _ _ (sym c.type_in.ensures.typed ∙ c.in_default.ensures.ok.typed) in
+    let lacks = ap (λ ids. has_item id_cmp ids c.args.id) c.type_in-old.ensures.ids ∙ (rw (← c.self.view_is) at c.requires.lacks) in
+    let grown : c.mark_with-grown.result ≡ fingerprint new =
+    c.mark_with-grown.ensures lacks ∙ ap (λ ids. fingerprint (with_item id_cmp ids c.args.id)) c.type_in-old.ensures.ids ∙ ap fingerprint (sym is) in
+    found_turned c.self.invariant c.type_in-old.ensures.typed
+    (subst (TakesType s c.gain.new.tables c.args.slot) (sym is) c.in_default.ensures.ok)
+    (λ n e. (rw (← c.self.view_is) at c.requires.absent) n (e ∙ ap Some is))
+    (rw grown at c.in_ok-add.ensures.ok) (rw (c.mark-mark.ensures, grown) at c.leave-2.ensures)
+    c.gain.ensures.index c.cut.ensures c.gain.ensures.agreed (then_told _ _ _ _ _ c.reserve_one.ensures.same c.tell.ensures.told)

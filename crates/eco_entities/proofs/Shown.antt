@@ -2,6 +2,7 @@
 use Rattle.eco_entities.proofs.Common.{common_steps, ◌≡◌, ◌≢◌, ℕ, zero, suc, ◌<◌, ◌==◌, ◌&&◌, Bool, true, false, cond}
 use Rattle.eco_entities.proofs.Common.{if◌then◌else◌, List, [], ◌∷◌, ◌++◌, length, set, get_or, slice_get, replicate, refl, sym, ap, ◌∙◌}
 use Rattle.eco_entities.proofs.Common.{Option, Some, None, is_some, option_map, option_and_then, arith, false≢true, slice_get_read, Entity, Indexed}
+use Rattle.eco_entities.proofs.Common.{get_or_from_slice_get, slice_get_within, subst, IsSome}
 use Rattle.eco_entities.proofs.Common.{IndexState, Retired, Free, Living, record_in, record_of, is_alive, is_free_in, map_state, own_name, Registration}
 use Rattle.eco_entities.proofs.Common.{given_name, entity_at, entity_in, own_arity, own_place, renamed, is_living, is_named, arity_in, place_in}
 use Rattle.eco_entities.proofs.Common.{registration_of, state_at, state_of, states, living_in, living_slot, is_free, next_generation, label_of, Slot, Inside}
@@ -70,6 +71,17 @@ same_if s t b h = grind arith
 living_same : (s t : Slot) (g : ℕ) → living_in (Some s) g ≡ Some t → t ≡ s
 living_same s t g h = same_if s t (is_living s.state && g == s.generation) h
 
+place_if : (s : Slot) (b : Bool) → IsSome (option_and_then place_in (cond b (Some s) None)) →
+    option_and_then place_in (cond b (Some s) None) ≡ place_in s
+place_if s true h = refl
+place_if s false h = absurd (false≢true h)
+
+-- who has a place has a slot, which tells it
+place_found : (o : Option Slot) (g : ℕ) → IsSome (option_and_then place_in (living_in o g)) →
+    (s : Slot) × (o ≡ Some s) × (option_and_then place_in (living_in o g) ≡ place_in s)
+place_found None g h = absurd (false≢true h)
+place_found (Some s) g h = (s, refl, place_if s (is_living s.state && g == s.generation) h)
+
 -- what slots show of an index
 abbrev pub Shows : ℕ → Names → List Slot → Indexed Registration → Type 0
 Shows limit label slots w = ◌≡◌ {A = Indexed Registration} (record { limit = limit; indices = states label slots }) w
@@ -109,6 +121,21 @@ module _ (kept : Inside) (w : Indexed Registration) (view : View kept w) (e : En
 
   pub place_shown : option_and_then place_in (living_slot (items kept) e) ≡ own_place w e
   place_shown = sym (ap (option_and_then (λ r. r.place)) record_shown ∙ place_map ((labels kept) e.index) (living_slot (items kept) e))
+
+  pub seat_found : IsSome (own_place w e) → (s : Slot) × (slice_get (items kept) e.index ≡ Some s) × (own_place w e ≡ place_in s)
+  seat_found h =
+      let (s, there, is) = place_found (slice_get (items kept) e.index) e.generation (subst IsSome (sym place_shown) h) in
+      (s, there, sym place_shown ∙ is)
+
+  -- the slot of who has a place is there
+  pub seat_within : IsSome (own_place w e) → e.index < length (items kept)
+  seat_within h = let (s, there, _) = seat_found h in slice_get_within (items kept) e.index s there
+
+  -- and where it was read, it tells the place
+  pub seat_read : (s : Slot) → IsSome (own_place w e) → s ≡ get_or (items kept) e.index s → own_place w e ≡ place_in s
+  seat_read s h read =
+      let (t, there, is) = seat_found h in
+      is ∙ ap place_in (sym (read ∙ get_or_from_slice_get (items kept) e.index t s there))
 
   pub arity_shown : option_and_then arity_in (living_slot (items kept) e) ≡ own_arity w e
   arity_shown = sym (ap (option_and_then (λ r. r.arity)) record_shown ∙ arity_map ((labels kept) e.index) (living_slot (items kept) e))

@@ -3,7 +3,7 @@
 //! An entity is named by a handle: an index, and how often that index was used before. A handle that outlives its entity
 //! is never taken for the one who lives at its index now (Flecs manual, Entities and Components).
 ghost use Rattle.std.specs.Prelude.{◌≡◌, ◌↔◌, ◌≤◌, ◌<◌, ◌&&◌, nat_lt, true, false, [], length, Option, Some, None};
-ghost use Rattle.std.specs.Prelude.{IsTrue, IfOk, IfSome, IfNone, OnOk, OnErr, MatchBool, MatchOption};
+ghost use Rattle.std.specs.Prelude.{IsSome, IsTrue, IfOk, IfSome, IfNone, OnOk, OnErr, MatchBool, MatchOption};
 ghost use Rattle.std.specs.Option.{option_copied};
 ghost use Rattle.eco_ids.specs.Births.{Admits, may_admit, Makes, MakesAliveWith, unfit_name};
 ghost use Rattle.eco_ids.specs.declared.entity.Entity.{Entity};
@@ -111,6 +111,15 @@ impl EntityIndex {
         ensures { result ≡ own_place self.now entity }
     {
         self.slots.place(entity)
+    }
+
+    /// Where a living entity is kept that has a place: it is told without a look at whether the entity lives.
+    #[inline]
+    pub fn seat_of(&self, entity: Entity) -> Place
+        requires { IsSome (own_place self.now entity) }
+        ensures { own_place self.now entity ≡ Some result }
+    {
+        self.slots.seat(entity)
     }
 
     /// The name of a living entity, if it has one.

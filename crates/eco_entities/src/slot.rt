@@ -1,5 +1,5 @@
 //! What the index keeps of one index, in 16 bytes.
-ghost use Rattle.std.specs.Prelude.{◌≡◌, ◌<◌, nat_lt, ℕ, true, List, Option, None, Some, if◌then◌else◌};
+ghost use Rattle.std.specs.Prelude.{◌≡◌, ◌<◌, nat_lt, ℕ, true, List, Option, None, Some, IsSome, if◌then◌else◌};
 ghost use Rattle.eco_entities.specs.Needs.{fields_for, need_in};
 ghost use Rattle.eco_ids.specs.Indices.{Free, Living, map_state, raised};
 ghost use Rattle.eco_entities.specs.Registration.{newcomer, placed, renamed};
@@ -225,6 +225,18 @@ impl Slot {
             table: self.table,
             row: self.row as usize,
         })
+    }
+
+    /// The place of who lives there and has one.
+    #[inline]
+    pub(crate) fn seat(&self) -> Place
+        requires { IsSome (place_in self.now) }
+        ensures { place_in self.now ≡ Some result }
+    {
+        Place {
+            table: self.table,
+            row: self.row as usize,
+        }
     }
 
     /// Changes the place of who lives there.

@@ -1,6 +1,6 @@
 //! The known indices: which of them live, are free or retired, and what is kept of the living.
 ghost use Rattle.std.specs.Prelude.{◌≡◌, ℕ, ◌+◌, ◌≤◌, ◌<◌, ◌&&◌, false, nat_lt, [], ◌++◌, replicate, vec_len};
-ghost use Rattle.std.specs.Prelude.{vec_capacity, length, slice_get, IsTrue, IsFalse, OnOk, OnErr, IfOk, IfSome};
+ghost use Rattle.std.specs.Prelude.{vec_capacity, length, slice_get, IsSome, IsTrue, IsFalse, OnOk, OnErr, IfOk, IfSome};
 ghost use Rattle.std.specs.Prelude.{IfNone, Some, None, option_map};
 ghost use Rattle.eco_ids.specs.Births.{Admits, may_admit, MakesAliveWith};
 ghost use Rattle.eco_ids.specs.Indices.{changed, record_of, is_alive, is_free_at, next_entity, admitted, with_new, with_record, with_death};
@@ -125,6 +125,15 @@ impl Slots {
         ensures { result ≡ own_place self.now entity }
     {
         living(self.slots.as_slice(), entity)?.place()
+    }
+
+    /// The place of a living entity that has one.
+    #[inline]
+    pub(crate) fn seat(&self, entity: Entity) -> Place
+        requires { IsSome (own_place self.now entity) }
+        ensures { own_place self.now entity ≡ Some result }
+    {
+        self.slots[entity.index as usize].seat()
     }
 
     /// The arity of a living entity, if it has one.

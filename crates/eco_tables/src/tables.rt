@@ -136,6 +136,15 @@ impl Tables {
         }
     }
 
+    /// The table in a slot that has one.
+    #[inline]
+    pub fn table(&self, slot: TableSlot) -> &Table
+        requires { IsSome (slot_of self.now slot) }
+        ensures { slot_of self.now slot ≡ Some result.now }
+    {
+        there_for_sure(&self.slots[slot])
+    }
+
     /// The slot has a table.
     pub fn contains(&self, slot: TableSlot) -> bool
         ensures { result ≡ is_some (slot_of self.now slot) }
@@ -291,6 +300,24 @@ impl Tables {
     {
         let (source, target) = two_mut(self.slots.as_mut_slice(), from, to);
         move_all_between(source, target);
+    }
+}
+
+// The table of a slot that has one.
+//
+// Where there is none an index of an empty list is read, which is never done: so the table is lent without a look at whether it is
+// there, where `unreachable!` would look and stop.
+#[inline(always)]
+fn there_for_sure(slot: &Option<Table>) -> &Table
+    requires { IsSome slot.now }
+    ensures { slot.now ≡ Some result.now }
+{
+    match slot {
+        Some(table) => table,
+        None => {
+            let nothing: &[&Table] = &[];
+            nothing[0]
+        }
     }
 }
 

@@ -99,9 +99,12 @@ impl<'a> Places<'a> {
     pub fn type_of(&self, entity: Entity) -> Option<&'a TypeList>
         ensures { option_copied result ≡ type_in_store self.now.entities entity }
     {
-        let place = self.entities.place_of(entity)?;
+        if !self.entities.is_alive(entity) {
+            return None;
+        }
+        let place = self.entities.seat_of(entity);
         let tables = self.archetypes.tables();
         tables.rows_have_ids();
-        Some(tables.get(place.table).unwrap().type_list())
+        Some(tables.table(place.table).type_list())
     }
 }

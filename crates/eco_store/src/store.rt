@@ -157,11 +157,13 @@ impl Store {
         ensures kept { IfSome result (λ x. KeepsData self.now.entities x.0.now) }
         ensures listed { IfSome result (λ x. IsTableOf self.now.entities x.0.now) }
     {
-        let place = self.layout.entities.place_of(e)?;
+        if !self.layout.entities.is_alive(e) {
+            return None;
+        }
+        let place = self.layout.place_of(e);
         let tables = self.layout.archetypes.tables();
         tables.rows_have_ids();
-        let table = tables.get(place.table).unwrap();
-        Some((table, place.row))
+        Some((tables.table(place.table), place.row))
     }
 
     /// The ids of a living entity.

@@ -26,7 +26,7 @@ impl Layout {
     {
         // Each row has a value for each id of its table.
         self.archetypes.tables().rows_have_ids();
-        self.entities.place_of(e).unwrap()
+        self.entities.seat_of(e)
     }
 
     /// The entity goes from its place to the end of the table in this slot, where its room was taken. It takes no memory.

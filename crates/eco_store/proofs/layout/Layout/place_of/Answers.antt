@@ -1,4 +1,4 @@
-use Rattle.eco_store.proofs.Common.{sym, subst, ◌∙◌, AllHaveIds, there_by_row}
+use Rattle.eco_store.proofs.Common.{subst, AllHaveIds, there_by_row}
 use Rattle.eco_store.proofs.Stepping.{standing_type}
 use Rattle.eco_places.proofs.Seated.{row_within}
 use Rattle.eco_store.proofs.layout.Layout.place_of.Goals as goal
@@ -6,8 +6,8 @@ use Rattle.eco_store.proofs.layout.Layout.place_of.Goals as goal
 pub returns : goal.returns
 returns c =
     let l = c.args.self.now in
-    let p = c.unwrap.result in
-    let own = sym c.place_of.ensures ∙ c.unwrap.ensures in
+    let p = c.seat_of.result in
+    let own = c.seat_of.ensures in
     let row = row_within l.entities l.archetypes c.args.e p c.requires.laid.store own in
     record {
       own = own;

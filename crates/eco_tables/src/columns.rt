@@ -27,12 +27,15 @@ pub fn find_column(columns: &[Column], id: Id) -> Option<usize>
     ensures found { IfSome result (λ i. slice_get (map (λ c. c.id) columns.now) i ≡ Some id) }
     ensures absent { IfNone result (has_item id_cmp (map (λ c. c.id) columns.now) id ≡ false) }
 {
-    if columns.len() <= FEW {
-        return find_among(columns, id);
-    }
-    // A copy of its own, since what is handed over stands in memory: so an id that is looked for among a few need not.
-    let wanted = id;
-    find_by_halves(columns, wanted)
+    // Each search is left where it finds nothing, so that whoever asks for the column need not look again whether it was found.
+    let place = if columns.len() <= FEW {
+        find_among(columns, id)?
+    } else {
+        // A copy of its own, since what is handed over stands in memory: so an id that is looked for among a few need not.
+        let wanted = id;
+        find_by_halves(columns, wanted)?
+    };
+    Some(place)
 }
 
 // Where the column of an id is among a few.

@@ -5,12 +5,13 @@ ghost use Rattle.std.specs.Map.{keys_of, lookup};
 ghost use Rattle.std.specs.Option.{option_to_list};
 ghost use Rattle.std.specs.HashMap.{get};
 ghost use Rattle.eco_ids.specs.declared.id.Id.{Id as Ids};
+ghost use Rattle.eco_ids.specs.declared.id.Id.TheVariants.{One, Two};
 ghost use Rattle.eco_index.specs.Edges.{same_id};
 ghost use Rattle.eco_index.specs.Sweeping.{kept_if};
 
 use crate::occupancy::Occupancy;
 use crate::seed::Seed;
-use eco_ids::{Id, TableSlot};
+use eco_ids::{Entity, Id, TableSlot};
 use indexmap::IndexMap;
 use std::alloc::{AllocError, Global};
 use std::marker::Model;
@@ -50,6 +51,7 @@ impl Drop for Kept {
 impl Model for EdgeList {
     ghost use Rattle.std.specs.Prelude.{List, ℕ};
     ghost use Rattle.eco_ids.specs.declared.id.Id.{Id as Ids};
+    ghost use Rattle.eco_ids.specs.declared.id.Id.TheVariants.{One, Two};
     ghost use Rattle.eco_index.specs.EdgeList.{edges_of, HasEachIdOnce};
 
     ghost Value = { List (Ids × ℕ) };
@@ -76,12 +78,10 @@ impl EdgeList {
             Kept::Empty => None,
             Kept::One(own) => lead_of(*own, id),
             Kept::Few(few) => lead_among(few.as_slice(), id),
-            Kept::Many(many) => {
-                // A copy of its own, since what is handed over stands in memory: so an id that is looked for among a few
-                // need not.
-                let wanted = id;
-                find_edge(many, wanted)
-            }
+            Kept::Many(many) => match id {
+                Id::One(entity) => find_single(many, entity),
+                Id::Two(relationship, target) => find_pair(many, relationship, target),
+            },
         }
     }
 
@@ -234,12 +234,25 @@ fn widened(
     Ok(Box::new(alloc, many)?)
 }
 
-// Where the id leads, of many edges. Apart, so that a few cost no more than a look at each.
+// Where a single id leads, of many edges. Apart, so that a few cost no more than a look at each. An id would stand in memory to
+// be handed over, and an entity need not.
 #[inline(never)]
-fn find_edge(edges: &IndexMap<Id, TableSlot, Seed>, id: Id) -> Option<TableSlot>
-    ensures { result ≡ get same_id edges.now id }
+fn find_single(edges: &IndexMap<Id, TableSlot, Seed>, entity: Entity) -> Option<TableSlot>
+    ensures { result ≡ get same_id edges.now (One entity) }
 {
-    edges.get(&id).copied()
+    edges.get(&Id::One(entity)).copied()
+}
+
+// Where a pair leads, of many edges, as `find_single` tells it of a single id.
+#[inline(never)]
+fn find_pair(
+    edges: &IndexMap<Id, TableSlot, Seed>,
+    relationship: Entity,
+    target: Entity,
+) -> Option<TableSlot>
+    ensures { result ≡ get same_id edges.now (Two relationship target) }
+{
+    edges.get(&Id::Two(relationship, target)).copied()
 }
 
 // Where the id leads, of one edge.

@@ -362,8 +362,8 @@ impl Table {
         ensures { self.new ≡ with_row self.old (new_row entity) }
     {
         self.entities.push_reserved(entity);
-        push_zeros(self.columns.as_mut_slice());
         self.room -= 1;
+        push_zeros(self.columns.as_mut_slice());
     }
 
     /// Takes a row out, into whose place the last row goes; the room of one row is won. The answer is the entity that

@@ -1,6 +1,6 @@
 use Rattle.eco_tables.proofs.Common.{◌<◌, arith, refl, zeros, pushed}
 use Rattle.eco_tables.proofs.Held.{mapped_all, mapped_more, not_yet_all}
-use Rattle.eco_tables.proofs.columns.push_zeros.Goals as goal
+use Rattle.eco_tables.proofs.columns.push_zeros_each.Goals as goal
 
 pub push_zeros-requires : goal.push_zeros-requires
 push_zeros-requires c =

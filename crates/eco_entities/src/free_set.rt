@@ -152,7 +152,8 @@ impl FreeSet {
         ensures err { OnErr result (self.new ≡ self.old) }
     {
         let len = self.len + count;
-        let indices = len.div_ceil(WORD_BITS);
+        // Words for twice as many indices, if so many aren't needed: a list that grows takes memory for as many.
+        let indices = len.max(2 * self.len).div_ceil(WORD_BITS);
         let words = indices.div_ceil(WORD_BITS);
         self.groups.grow_to(words.div_ceil(WORD_BITS))?;
         self.words.grow_to(words)?;

@@ -313,9 +313,34 @@ impl Slots {
             self.new ≡ with_new self.old e (placed place (newcomer None arity))) }
         ensures none { IfNone result (self.new ≡ self.old) }
     {
-        let entity = self.next()?;
+        // Each branch knows whether the index is a new one, so that what it does is short.
+        let known = self.slots.len();
+        match self.free.lowest() {
+            Some(index) => self.settle_at(index, arity, place),
+            None if known < self.limit as usize => self.settle_at(known, arity, place),
+            None => None,
+        }
+    }
+
+    // What `settle_in_room` does, told at which index.
+    #[inline(always)]
+    fn settle_at(&mut self, index: usize, arity: Option<u8>, place: Place) -> Option<Entity>
+        requires fits { place.row < 4294967295 }
+        requires small { index < 1048576 }
+        requires next { next_entity self.old ≡ Some (record {
+          index = index;
+          generation = next_generation (slice_get self.old.indices index);
+        }) }
+        ensures next { IfSome result (λ e. next_entity self.old ≡ Some e) }
+        ensures some { IfSome result (λ e.
+            self.new ≡ with_new self.old e (placed place (newcomer None arity))) }
+        ensures none { IfNone result (self.new ≡ self.old) }
+    {
+        let entity = Entity {
+            index: index as u32,
+            generation: self.next_generation(index),
+        };
         let slot = Slot::settled(entity.generation, arity, place);
-        let index = entity.index as usize;
         if !put_in_room(&mut self.slots, &mut self.free, index, slot) {
             return None;
         }
@@ -429,10 +454,31 @@ fn put(
         slots[index] = slot;
         return Ok(());
     }
-    slots.reserve(1)?;
+    if slots.len() == slots.capacity() {
+        grow(slots)?;
+    }
     free.grow(1)?;
     slots.push_reserved(slot);
     Ok(())
+}
+
+// A quarter of the most indices that a world may have.
+const QUARTER: usize = 262_144;
+
+// Room for one more slot, where there is none. The list grows fourfold, or doubles where so much is refused: it is copied less
+// often than one that only doubles, and the blocks that it leaves behind are small beside it, so that an allocator that
+// keeps some memory for the next world keeps them all.
+#[cold]
+#[inline(never)]
+fn grow(slots: &mut Vec<Slot>) -> Result<(), AllocError>
+    ensures items { slots.new.items ≡ slots.old.items }
+    ensures room { OnOk result (vec_len slots.new < vec_capacity slots.new) }
+{
+    let known = slots.len();
+    if known <= QUARTER {
+        let _ = slots.reserve(3 * known);
+    }
+    slots.reserve(1)
 }
 
 // What `put` does, where it wants no memory. The answer says whether it does; if it would, both stay as they are.

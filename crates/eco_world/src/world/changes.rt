@@ -69,6 +69,7 @@ impl World {
     ///
     /// Refused with `BadName` where the name is none, with `NameTaken` where a living entity has it, with `NoMoreIds`
     /// where no index below the limit is left, and last with `OutOfMemory`.
+    #[inline(always)]
     pub fn create(&mut self, name: Option<&str>) -> Result<Entity, Refusal>
         ensures { Meets (Creates self.old (option_copied name.entry))
             (may_create self.old (option_copied name.entry)) self.old result self.new }

@@ -8,6 +8,9 @@ use Rattle.eco_archetypes.proofs.archetypes.Archetypes.gain_alone.Goals as goal
 pub invariant_of-self : goal.invariant_of-self
 invariant_of-self c = found_ready c.self.invariant (λ p n. refl) c.reserve_one.ensures.same
 
+pub mark_with-grown-requires : goal.mark_with-grown-requires
+mark_with-grown-requires c = ap (λ ids. has_item id_cmp ids c.args.id) c.type_in-old.ensures.ids ∙ (rw (← c.self.view_is) at c.requires.lacks)
+
 pub invariant_of-self-in_err-add : goal.invariant_of-self-in_err-add
 invariant_of-self-in_err-add c = found_ready c.self.invariant c.in_err-add.ensures.err c.reserve_one.ensures.same
 
@@ -16,8 +19,7 @@ invariant_of-self-in-Err c =
     let s = c.self.inside.tables in
     let n = c.args.slot in
     let old = c.type_in-old.result.now in
-    let lacks = ap (λ ids. has_item id_cmp ids c.args.id) c.type_in-old.ensures.ids ∙ (rw (← c.self.view_is) at c.requires.lacks) in
-    let grown : c.mark_with-grown.result ≡ fingerprint (with_item id_cmp old c.args.id) = c.mark_with-grown.ensures lacks in
+    let grown : c.mark_with-grown.result ≡ fingerprint (with_item id_cmp old c.args.id) = c.mark_with-grown.ensures in
     let types : (k : ℕ) → type_at c.gain.new.tables k ≡ type_at s k = λ k. ap (option_map (λ (t : TableState). t.ids)) (c.in-Err.ensures.err k) in
     let had = c.type_in-old.ensures.typed in
     found_kept c.self.invariant types
@@ -33,9 +35,8 @@ invariant_of-self-2 c =
     let new = c.type_in.result.now in
     let is : new ≡ with_item id_cmp (table_in s c.args.slot).ids c.args.id =
     same_Some _ _ (sym c.type_in.ensures.typed ∙ c.in_default.ensures.ok.typed) in
-    let lacks = ap (λ ids. has_item id_cmp ids c.args.id) c.type_in-old.ensures.ids ∙ (rw (← c.self.view_is) at c.requires.lacks) in
     let grown : c.mark_with-grown.result ≡ fingerprint new =
-    c.mark_with-grown.ensures lacks ∙ ap (λ ids. fingerprint (with_item id_cmp ids c.args.id)) c.type_in-old.ensures.ids ∙ ap fingerprint (sym is) in
+    c.mark_with-grown.ensures ∙ ap (λ ids. fingerprint (with_item id_cmp ids c.args.id)) c.type_in-old.ensures.ids ∙ ap fingerprint (sym is) in
     found_turned c.self.invariant c.type_in-old.ensures.typed
     (subst (TakesType s c.gain.new.tables c.args.slot) (sym is) c.in_default.ensures.ok)
     (λ n e. (rw (← c.self.view_is) at c.requires.absent) n (e ∙ ap Some is))

@@ -7,6 +7,9 @@ use Rattle.eco_archetypes.proofs.archetypes.Archetypes.lose_alone.Goals as goal
 pub invariant_of-self : goal.invariant_of-self
 invariant_of-self c = found_ready c.self.invariant (λ p n. refl) c.reserve_one.ensures.same
 
+pub mark_without-left-requires : goal.mark_without-left-requires
+mark_without-left-requires c = ap (λ ids. has_item id_cmp ids c.args.id) c.type_in-old.ensures.ids ∙ (rw (← c.self.view_is) at c.requires.has)
+
 pub invariant_of-self-in_err-add : goal.invariant_of-self-in_err-add
 invariant_of-self-in_err-add c = found_ready c.self.invariant c.in_err-add.ensures.err c.reserve_one.ensures.same
 
@@ -16,9 +19,8 @@ invariant_of-self-2 c =
     let new = c.type_in.result.now in
     let is : new ≡ without_item id_cmp (table_in s c.args.slot).ids c.args.id =
     same_Some _ _ (sym c.type_in.ensures.typed ∙ c.lose.ensures.turned.typed) in
-    let has = ap (λ ids. has_item id_cmp ids c.args.id) c.type_in-old.ensures.ids ∙ (rw (← c.self.view_is) at c.requires.has) in
     let left : c.mark_without-left.result ≡ fingerprint new =
-    c.mark_without-left.ensures has ∙ ap (λ ids. fingerprint (without_item id_cmp ids c.args.id)) c.type_in-old.ensures.ids ∙ ap fingerprint (sym is) in
+    c.mark_without-left.ensures ∙ ap (λ ids. fingerprint (without_item id_cmp ids c.args.id)) c.type_in-old.ensures.ids ∙ ap fingerprint (sym is) in
     found_turned c.self.invariant c.type_in-old.ensures.typed (subst (TakesType s c.lose.new.tables c.args.slot) (sym is) c.lose.ensures.turned)
     (λ n e. (rw (← c.self.view_is) at c.requires.absent) n (e ∙ ap Some is))
     (rw left at c.in_ok-add.ensures.ok) (rw (c.mark-mark.ensures, left) at c.leave.ensures)

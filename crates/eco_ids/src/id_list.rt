@@ -17,12 +17,19 @@ const FEW_MOVED: usize = 16;
 /// where they are many and there is room: so the ids of an entity may go one by one from either end.
 ///
 /// A contract sees the list of ids.
-#[derive(Debug, Drop)]
+#[derive(Debug)]
 pub(crate) struct IdList {
     // Some that are no more in the list, and behind them those that are.
     ids: SmallVec<Id, INLINE_IDS>,
     // How many have gone at the front.
     gone: usize,
+}
+
+// By hand, so that dropping it is one call: a derived drop is proved anew at each early return of whoever holds it.
+impl Drop for IdList {
+    fn drop(self) {
+        let IdList { ids: _, gone: _ } = self;
+    }
 }
 
 impl Model for IdList {

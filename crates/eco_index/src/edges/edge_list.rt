@@ -51,7 +51,6 @@ impl Drop for Kept {
 impl Model for EdgeList {
     ghost use Rattle.std.specs.Prelude.{List, ℕ};
     ghost use Rattle.eco_ids.specs.declared.id.Id.{Id as Ids};
-    ghost use Rattle.eco_ids.specs.declared.id.Id.TheVariants.{One, Two};
     ghost use Rattle.eco_index.specs.EdgeList.{edges_of, HasEachIdOnce};
 
     ghost Value = { List (Ids × ℕ) };

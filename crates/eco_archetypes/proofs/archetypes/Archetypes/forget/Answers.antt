@@ -6,9 +6,3 @@ invariant_of-self c =
     found_dropped c.self.invariant c.in-Some.ensures.dropped
     (rowless-type_at c.self.inside.tables c.args.slot c.in-Some.type_list c.in-Some.ensures.answer)
     (rw c.mark.ensures at c.take.ensures) (rw c.as_slice.ensures.ids at c.take_all.ensures) c.cut.ensures c.forget.ensures.told
-
-pub invariant_of-self-in-Some-2 : goal.invariant_of-self-in-Some-2
-invariant_of-self-in-Some-2 c =
-    found_dropped c.self.invariant c.in-Some.ensures.dropped
-    (rowless-type_at c.self.inside.tables c.args.slot c.in-Some.type_list c.in-Some.ensures.answer)
-    (rw c.mark.ensures at c.take.ensures) (rw c.as_slice.ensures.ids at c.take_all.ensures) c.cut.ensures c.forget.ensures.told

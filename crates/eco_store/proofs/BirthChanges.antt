@@ -173,6 +173,14 @@ module _ (w w1 : Indexed Registration) (s s1 : List (Option TableState)) (e : En
       born_read w w1 s s1 e place [] None None store puts (omega (arith, known)) vacant as_new
       ∙ sym (known_new (read w s) e (newborn None None []) (rw length-map known))
 
+-- who was made alive lives
+pub made_lives : (w w1 : Indexed Registration) (e : Entity) → IsTrue (is_free_at w e) → w1 ≡ with_record w e (newcomer None None)
+    → IsTrue (is_alive w1 e)
+made_lives w w1 e free is =
+    let known = slice_get_within w.indices e.index _ (free_is w e free).1 in
+    ap is_some (record_at w1 e (newcomer None None) (ap (λ (x : Indexed Registration). slice_get x.indices e.index)
+    (is ∙ known_new w e (newcomer None None) known) ∙ born_here w e (newcomer None None) (omega (arith, known))))
+
 pub admit_lifts : (w w1 : Indexed Registration) (s : List (Option TableState)) (n : ℕ) (some : Bool) (r : Result (Unit {0}) Refusal)
     → Meets (Admits w n) (may_admit w n && some) w r w1
     → (IsStore w s → IsStore w1 s) × Meets (Admits (read w s) n) (may_admit (read w s) n && some) (read w s) r (read w1 s)

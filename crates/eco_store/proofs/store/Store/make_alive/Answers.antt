@@ -1,5 +1,6 @@
 use Rattle.eco_store.proofs.Common.{Some, [], true, false, ◌≡◌, length, refl, ap, ◌∙◌, sym, is_free_at, read, Place, rows_in, all_staying}
-use Rattle.eco_store.proofs.Common.{MakeAlive}
+use Rattle.eco_store.proofs.Common.{MakeAlive, Err, OutOfMemory, rules}
+use Rattle.eco_store.proofs.StoreChanges.{same_read}
 use Rattle.eco_store.proofs.RowCounts.{end_fits}
 use Rattle.eco_store.proofs.Laid.{found_laid, found_puts, sought_settled}
 use Rattle.eco_store.proofs.LaidRows.{rows_alike}
@@ -18,6 +19,12 @@ returns-then-not-is_free_at c = record {
 }
 
 -- it lives
+pub seat-requires-clause-alive : goal.seat-requires-clause-alive
+seat-requires-clause-alive c =
+    let w = c.self.inside.layout.entities in
+    let free : is_free_at w c.args.e ≡ true = sym c.is_free_at.ensures ∙ c.if-not-is_free_at.false in
+    births.made_lives w _ c.args.e free (rw free at c.make_alive.ensures).1
+
 pub seat-requires-clause-fits : goal.seat-requires-clause-fits
 seat-requires-clause-fits c =
     let l = c.self.inside.layout in
@@ -71,3 +78,14 @@ returns c = record {
 pub invariant_of-self : goal.invariant_of-self
 invariant_of-self c =
     sought_settled c.self.inside.layout _ c.room_for.ensures.rows c.self.invariant c.room_for.ensures.widths c.in_err-table.ensures.rowless
+
+pub returns-in_err-table : goal.returns-in_err-table
+returns-in_err-table c = record {
+  step =
+      let w = c.self.inside.layout.entities in
+      let s = c.self.inside.layout.archetypes in
+      let free : is_free_at w c.args.e ≡ true = sym c.is_free_at.ensures ∙ c.if-not-is_free_at.false in
+      let err : c.from_residual.result ≡ Err OutOfMemory = search rules in
+      rw (← c.self.view_is, err)
+      (births.is_free_at-read w s c.args.e ∙ free, same_read w s c.room_for.new.self c.room_for.ensures.rows);
+}

@@ -3,7 +3,7 @@ use Rattle.eco_archetypes.proofs.Common.{◌≡◌, ◌≢◌, ℕ, ◌<◌, Boo
 use Rattle.eco_archetypes.proofs.Common.{Some, None, option_map, unwrap_or, IsSome, nat_eq, refl, sym, ap, ◌∙◌, inl, inr, is_some, true≢false}
 use Rattle.eco_archetypes.proofs.Common.{list_any, same_Some, ◌||◌}
 use Rattle.eco_archetypes.proofs.Common.{cases_eq, Decides-eqb, Id, TableState, TableRow, slot_of, table_in, no_table, SetsSlot, Moves, MovesAll}
-use Rattle.eco_archetypes.proofs.Common.{rowless, rowless_type, room_some, row_some, AreKinds, IsTypeMap, same_ids-Decides, is_type, fingerprint}
+use Rattle.eco_archetypes.proofs.Common.{rowless, rowless_type, room_some, row_some, TypesDiffer, IsTypeMap, same_ids-Decides, is_type, fingerprint}
 use Rattle.eco_archetypes.proofs.Common.{ListsSame, Lists, any_matches, Turns, toggled, Cuts}
 use Rattle.eco_archetypes.proofs.Common.{Links, SameEdges, AreExact, AreTold, ChangesType, StayExact, Cache, exact_types, graph_made, graph_cut, graph_linked}
 use Rattle.eco_archetypes.proofs.Common.{type_at, type_marked, type_matches, IsIdIndex, IsArchetypes, SameSlots, SameRows, AreAgreed}
@@ -107,12 +107,13 @@ pub index_same : {P : Type 0} (test : Option (List Id) → P → Bool) (types ty
 index_same test types types' l l' index same lists f k = lists f k ∙ index f k ∙ ap (λ o. test o f) (sym (same k))
 
 -- no type comes that was not there
-pub kinds_kept : (types types' : ℕ → Option (List Id)) → ((k : ℕ) (ids : List Id) → types' k ≡ Some ids → types k ≡ Some ids) → AreKinds types → AreKinds types'
+pub kinds_kept : (types types' : ℕ → Option (List Id)) → ((k : ℕ) (ids : List Id) → types' k ≡ Some ids → types k ≡ Some ids)
+    → TypesDiffer types → TypesDiffer types'
 kinds_kept types types' was kinds n m ids a b = kinds n m ids (was n ids a) (was m ids b)
 
 -- one slot has a type that no slot had
 pub kinds_set : (types types' : ℕ → Option (List Id)) (n : ℕ) (u : List Id) → ((k : ℕ) → k ≢ n → types' k ≡ types k) → types' n ≡ Some u
-    → ((k : ℕ) → types k ≢ Some u) → AreKinds types → AreKinds types'
+    → ((k : ℕ) → types k ≢ Some u) → TypesDiffer types → TypesDiffer types'
 kinds_set types types' n u others now absent kinds k j ids a b = elim (cases_eq k n) [
   | inl here ↦ elim (cases_eq j n) [
     | inl there ↦ here ∙ sym there

@@ -47,7 +47,7 @@ pub use Rattle.eco_index.proofs.TypeMaps.{marks_back, marks_turned}
 pub use Rattle.eco_index.proofs.TypeTests.{names_match}
 pub use Rattle.eco_index.specs.Edges.{Cuts, IsGraph, IsTwofold, Links, SameEdges, edge, exchanged, toggled}
 pub use Rattle.eco_index.specs.IdIndex.{Lists, ListsSame, Turns, any_matches, is_own, lists_of, matches_id}
-pub use Rattle.eco_index.specs.TypeMap.{AreKinds, IsTypeMap, is_but, same_ids, type_marked}
+pub use Rattle.eco_index.specs.TypeMap.{TypesDiffer, IsTypeMap, is_but, same_ids, type_marked}
 pub use Rattle.eco_index.specs.TypeTests.{AreNeeded, group_at, naming, passes_with, passes_without, type_matches_one, type_names}
 pub use Rattle.eco_query.specs.Queries.{QuerySlot, exactly, matches_type}
 pub use Rattle.eco_tables.proofs.Slots.{none_is, room_some, row_some}

@@ -12,7 +12,7 @@ use Rattle.eco_entities.specs.Registration.{Registration}
 use Rattle.eco_tables.specs.Table.{TableState, retyped_row, TableRow, entities_of}
 use Rattle.eco_tables.specs.Tables.{slot_of, table_in, rowless_type}
 use Rattle.eco_index.specs.Edges.{IsGraph}
-use Rattle.eco_index.specs.TypeMap.{AreKinds, IsTypeMap, same_ids}
+use Rattle.eco_index.specs.TypeMap.{TypesDiffer, IsTypeMap, same_ids}
 use Rattle.eco_index.specs.IdIndex.{Lists, any_matches}
 use Rattle.eco_caches.specs.Caching.{AreExact}
 use Rattle.eco_caches.specs.declared.cache.Cache.{Cache}
@@ -44,7 +44,7 @@ IsIdIndex types lists = (p : Pattern) (n : ℕ) → lists p n ≡ type_matches (
 -- from table to table, an id is as wide in each table, and caches have exactly the tables that they are to have
 pub record IsArchetypes (slots : List (Option TableState)) (by_type : ℕ → ℕ → Bool) (by_id : Lists)
     (edges : List (List (Id × ℕ))) (caches : List Cache) : Type 0 where
-  pub kinds : AreKinds (type_at slots)
+  pub kinds : TypesDiffer (type_at slots)
   pub types : IsTypeMap (type_at slots) by_type
   pub matches : IsIdIndex (type_at slots) by_id
   pub graph : IsGraph (type_at slots) edges

@@ -23,5 +23,5 @@ abbrev pub IsTypeMap : (ℕ → Option (List Id)) → (ℕ → ℕ → Bool) →
 IsTypeMap types lists = (mark n : ℕ) → lists mark n ≡ type_marked (types n) mark
 
 -- no two slots have the same type
-abbrev pub AreKinds : (ℕ → Option (List Id)) → Type 0
-AreKinds types = (n m : ℕ) (ids : List Id) → types n ≡ Some ids → types m ≡ Some ids → n ≡ m
+abbrev pub TypesDiffer : (ℕ → Option (List Id)) → Type 0
+TypesDiffer types = (n m : ℕ) (ids : List Id) → types n ≡ Some ids → types m ≡ Some ids → n ≡ m

@@ -23,11 +23,15 @@ is_targeted p n = by (list_any (nat_eq n) p.targets) refl
     by false h = list_any-append (nat_eq n) p.targets (n ∷ []) ∙ ap (λ b. b || list_any (nat_eq n) (n ∷ [])) h
         ∙ ap (λ b. b || false) (is_equal n n refl)
 
+-- the table in a slot that is no target has changed
+pub same_but : (s s' : List (Option TableState)) (targets : List ℕ) (n : ℕ) (o : Option TableState) → list_any (nat_eq n) targets ≡ false
+    → SetsSlot s s' n o → SameIn s s' targets
+same_but s s' targets n o free sets m among = sets.others m (λ same. true≢false (sym among ∙ ap (λ k. list_any (nat_eq k) targets) same ∙ free))
+
 -- a table that is no target may have gone
 pub same_targets : (s s' : List (Option TableState)) (targets : List ℕ) (n : ℕ) (o : Option (List Id)) → list_any (nat_eq n) targets ≡ false
     → OnSome o (SetsSlot s s' n None) → IfNone o (SameSlots s s') → SameIn s s' targets
-same_targets s s' targets n (Some ids) free dropped kept m among =
-    dropped.others m (λ same. true≢false (sym among ∙ ap (λ k. list_any (nat_eq k) targets) same ∙ free))
+same_targets s s' targets n (Some ids) free dropped kept m among = same_but s s' targets n None free dropped m among
 same_targets s s' targets n None free dropped kept m among = kept m
 
 not_named : (b : Bool) → true ≡ not b → b ≡ false

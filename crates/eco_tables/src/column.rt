@@ -209,6 +209,17 @@ fn take_out<const N: usize>(rows: &mut Vec<[i64; N]>, row: usize)
     rows.swap_remove(row);
 }
 
+// Memory goes back, but for that of the fields that are there and of so many more.
+fn shrink<const N: usize>(rows: &mut Vec<[i64; N]>, room: usize)
+    requires { room ≤ vec_capacity rows.old - vec_len rows.old }
+    ensures items { rows.new.items ≡ rows.old.items }
+    ensures len { vec_len rows.new ≡ vec_len rows.old }
+    ensures room { room ≤ vec_capacity rows.new - vec_len rows.new }
+{
+    let wanted = rows.len() + room;
+    rows.shrink_to(wanted);
+}
+
 // Zeros behind the own fields, in reserved room.
 fn push_zeros<const N: usize>(rows: &mut Vec<[i64; N]>)
     requires few { N ≤ FIELD_COUNT }
@@ -341,6 +352,15 @@ impl Column {
         ensures room { OnOk result (more ≤ self.new.room) }
     {
         at_each_width!(&mut self.fields, |rows| rows.reserve(more))
+    }
+
+    /// Gives memory back, but for that of the values and of so many more. Where the allocator takes none, it stays.
+    pub fn shrink(&mut self, room: usize)
+        requires { room ≤ self.old.room }
+        ensures same { self.new ≡ record self.old { room = self.new.room } }
+        ensures room { room ≤ self.new.room }
+    {
+        at_each_width!(&mut self.fields, |rows| shrink(rows, room))
     }
 
     /// Zeros for one more row, in reserved room.

@@ -162,6 +162,17 @@ pub fn reserve(columns: &mut [Column], more: usize) -> Result<(), AllocError>
     Ok(())
 }
 
+/// Each gives memory back, but for that of the rows and of so many more.
+pub fn shrink(columns: &mut [Column], room: usize)
+    requires { All (λ c. room ≤ c.room) columns.old }
+    ensures same { map contents columns.new ≡ map contents columns.old }
+    ensures room { All (λ c. room ≤ c.room) columns.new }
+{
+    for column in columns.iter_mut() {
+        column.shrink(room);
+    }
+}
+
 /// A place for one more row in each, with zeros.
 #[inline(always)]
 pub fn push_zeros(columns: &mut [Column])

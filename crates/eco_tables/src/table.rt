@@ -19,7 +19,7 @@ ghost use Rattle.eco_tables.specs.Values.{fields_of, whole_values};
 use crate::column::Column;
 use crate::columns::{
     are_alike, clear, columns_of, copy_all, find_column, find_value, join_all, push_from,
-    push_zeros, reserve, swap_out_row, write_value,
+    push_zeros, reserve, shrink, swap_out_row, write_value,
 };
 use crate::values::Values;
 use eco_ids::{Entity, Id, TypeList, Value};
@@ -268,6 +268,17 @@ impl Table {
         ensures { self.new ≡ with_room self.old 0 }
     {
         self.room = 0;
+    }
+
+    /// Gives up the room but for so many more rows. The memory of the rest goes back, where the allocator takes it.
+    pub fn shrink(&mut self, room: usize)
+        requires { room ≤ self.old.room }
+        ensures { self.new ≡ with_room self.old room }
+    {
+        let wanted = self.entities.len() + room;
+        self.entities.shrink_to(wanted);
+        shrink(self.columns.as_mut_slice(), room);
+        self.room = room;
     }
 
     /// A row for the entity, with the values of a row elsewhere: of ids that both types have, which are as wide in both; new

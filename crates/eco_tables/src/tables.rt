@@ -233,6 +233,15 @@ impl Tables {
         table_mut(&mut self.slots, slot).waive();
     }
 
+    /// Gives up the room in a table but for so many more rows. The memory of the rest goes back, where the allocator takes it.
+    pub fn shrink(&mut self, slot: TableSlot, room: usize)
+        requires there { IsSome (slot_of self.old slot) }
+        requires room { room ≤ (table_in self.old slot).room }
+        ensures { SetsSlot self.old self.new slot (Some (with_room (table_in self.old slot) room)) }
+    {
+        table_mut(&mut self.slots, slot).shrink(room);
+    }
+
     /// Writes the value of an id in a row, and takes no memory. The answer is whether the table's type has the id; where it
     /// lacks it nothing is written.
     #[inline(always)]

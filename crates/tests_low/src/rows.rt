@@ -29,9 +29,10 @@ fn positioned(alloc: Global) -> Result<TypeList, AllocError>
     TypeList::empty(alloc).with(POSITION)
 }
 
-// How many rows a table has that gets room twice and a row each time.
+// How many rows a table has that gets room twice, gives some back, and gets a row each time.
 fn fill(table: &mut Table) -> Result<usize, AllocError> {
-    table.reserve(1)?;
+    table.reserve(5)?;
+    table.shrink(1);
     table.push_row(FIRST);
     table.waive();
     table.reserve_more(1)?;
@@ -53,6 +54,7 @@ fn moved(alloc: Global, tables: &mut Tables) -> Result<Option<Value>, AllocError
     tables.push_row(from, FIRST);
     tables.set_value(from, 0, POSITION, WRITTEN);
     tables.waive(to);
+    tables.shrink(to, 0);
     tables.reserve_more(to, 1)?;
     tables.move_row(from, 0, to);
     Ok(

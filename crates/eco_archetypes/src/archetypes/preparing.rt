@@ -36,4 +36,18 @@ impl Archetypes {
     {
         self.tables.waive(slot);
     }
+
+    /// Gives up the room in a table but for so many more rows. The memory of the rest goes back, where the allocator takes it.
+    pub fn shrink(&mut self, slot: TableSlot, room: usize)
+        requires there { IsSome (slot_of self.old slot) }
+        requires room { room ≤ (table_in self.old slot).room }
+        ensures sets { SetsSlot self.old self.new slot
+            (Some (record (table_in self.old slot) { room = room })) }
+        ensures types { SameTypes self.old self.new }
+        ensures rowless { (slots : List ℕ) → RowlessIn self.old slots → RowlessIn self.new slots }
+        ensures rows { SameRows self.old self.new }
+        ensures widths { KeepsWidths self.old self.new }
+    {
+        self.tables.shrink(slot, room);
+    }
 }

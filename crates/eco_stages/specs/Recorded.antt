@@ -26,6 +26,6 @@ abbrev pub commands_of : List Recorded → List run.Command
 commands_of commands = map recorded_command commands
 
 -- what a set sets
-abbrev pub set_of : run.Command → Option (Entity × Id × Value)
-set_of (run.Set e i v) = Some (e, i, v)
-set_of _ = None
+abbrev pub parts_of_set : run.Command → Option (Entity × Id × Value)
+parts_of_set (run.Set e i v) = Some (e, i, v)
+parts_of_set _ = None

@@ -6,7 +6,7 @@ ghost use Rattle.eco_ids.specs.Data.{is_zero_past};
 ghost use Rattle.eco_ids.specs.Run.{Set};
 ghost use Rattle.eco_ids.specs.World.{padded};
 ghost use Rattle.eco_stages.specs.Commands.{command_of};
-ghost use Rattle.eco_stages.specs.Recorded.{recorded_command, set_of};
+ghost use Rattle.eco_stages.specs.Recorded.{recorded_command, parts_of_set};
 
 use crate::command::Command;
 use eco_ids::{Entity, Id, Value};
@@ -136,7 +136,7 @@ impl Recorded {
     /// What a set sets: the entity, the id and the value. None, if this is another command.
     #[inline(always)]
     pub fn as_set(&self) -> Option<(Entity, Id, Value)>
-        ensures { result ≡ set_of (recorded_command self.now) }
+        ensures { result ≡ parts_of_set (recorded_command self.now) }
     {
         match self {
             Recorded::Set(entity, id, fields) => Some((*entity, *id, Value::of(*fields))),

@@ -1,3 +1,4 @@
 pub mod Common
 pub mod Counted
+pub mod Fields
 pub mod Merges

@@ -1,5 +1,5 @@
--- What recorded commands mean.
-use Rattle.std.specs.Prelude.{List, map, option_map, string_bytes}
+-- What commands mean.
+use Rattle.std.specs.Prelude.{option_map, string_bytes}
 use Rattle.eco_ids.specs.Run as run
 use Rattle.eco_stages.specs.declared.command.Command.{Command}
 use Rattle.eco_stages.specs.declared.command.Command.TheVariants.{Create, Add, Remove, Set, Clear, Rename, Delete, DeleteWith, RemoveAll}
@@ -15,7 +15,3 @@ command_of (Rename e name) = run.Rename e (option_map string_bytes name)
 command_of (Delete e) = run.Delete e
 command_of (DeleteWith i) = run.DeleteWith i
 command_of (RemoveAll i) = run.RemoveAll i
-
--- each of them
-abbrev pub commands_of : List Command → List run.Command
-commands_of commands = map command_of commands

@@ -1,4 +1,5 @@
 pub mod Commands
 pub mod Merging
 pub mod Outcomes
+pub mod Recorded
 pub mod Taking

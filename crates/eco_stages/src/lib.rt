@@ -9,6 +9,7 @@ mod iter;
 pub mod laws;
 mod merging;
 mod outcomes;
+mod recorded;
 mod report;
 mod stage;
 
@@ -18,5 +19,6 @@ pub use draws::Draws;
 pub use iter::Iter;
 pub use merging::{MergeTarget, apply_stages, room_for};
 pub use outcomes::Outcomes;
+pub use recorded::{KEPT_FIELDS, Recorded};
 pub use report::Report;
 pub use stage::Stage;

@@ -3,11 +3,11 @@ ghost use Rattle.std.specs.Prelude.{◌≡◌, ◌+◌, ◌≤◌, ◌<◌, ◌�
 ghost use Rattle.eco_ids.specs.Outcome.{Meets};
 ghost use Rattle.eco_ids.specs.Run.{Applies, may_want};
 ghost use Rattle.eco_ids.specs.World.{WorldState};
-ghost use Rattle.eco_stages.specs.Commands.{command_of, commands_of};
 ghost use Rattle.eco_stages.specs.Merging.{all_commands, has_commands, AreDone};
+ghost use Rattle.eco_stages.specs.Recorded.{commands_of, recorded_command};
 
-use crate::command::Command;
 use crate::outcomes::Outcomes;
+use crate::recorded::Recorded;
 use crate::stage::Stage;
 use eco_ids::Refusal;
 use std::alloc::{AllocError, Global};
@@ -18,13 +18,13 @@ pub trait MergeTarget {
     ghost world: { Self → WorldState };
 
     /// The command is done, or refused as the call of a world is that it stands for; a refused one changes nothing.
-    fn apply(&mut self, command: &Command) -> Result<(), Refusal>
-        ensures { Meets (Applies (command_of command.now) (world self.old))
-            (may_want (command_of command.now) (world self.old)) (world self.old) result (world self.new) };
+    fn apply(&mut self, command: &Recorded) -> Result<(), Refusal>
+        ensures { Meets (Applies (recorded_command command.now) (world self.old))
+            (may_want (recorded_command command.now) (world self.old)) (world self.old) result (world self.new) };
 
     /// Commands are done up to the first that is no set, and their outcomes appended: so what is known of an id serves for all
     /// sets of it. The answer is how many those are.
-    fn apply_sets(&mut self, commands: &[Command], outcomes: &mut Outcomes) -> usize
+    fn apply_sets(&mut self, commands: &[Recorded], outcomes: &mut Outcomes) -> usize
         requires { length outcomes.old.outcomes + length commands.now ≤ outcomes.old.room }
         ensures within { result ≤ length commands.now }
         ensures done { AreDone (world self.old) (commands_of (take result commands.now))
@@ -33,9 +33,9 @@ pub trait MergeTarget {
 
 // The command is done, and its outcome appended.
 #[inline(always)]
-fn apply_one<W: MergeTarget>(world: &mut W, command: &Command, outcomes: &mut Outcomes)
+fn apply_one<W: MergeTarget>(world: &mut W, command: &Recorded, outcomes: &mut Outcomes)
     requires { length outcomes.old.outcomes < outcomes.old.room }
-    ensures { AreDone (W.world world.old) (command_of command.now ∷ []) outcomes.old outcomes.new
+    ensures { AreDone (W.world world.old) (recorded_command command.now ∷ []) outcomes.old outcomes.new
         (W.world world.new) }
 {
     let outcome = world.apply(command);
@@ -45,7 +45,7 @@ fn apply_one<W: MergeTarget>(world: &mut W, command: &Command, outcomes: &mut Ou
 // The sets that come first are done, or else the first command, and their outcomes appended. The answer is how many those are.
 fn apply_first_sets<W: MergeTarget>(
     world: &mut W,
-    commands: &[Command],
+    commands: &[Recorded],
     outcomes: &mut Outcomes,
 ) -> usize
     requires some { 0 < length commands.now }
@@ -65,7 +65,11 @@ fn apply_first_sets<W: MergeTarget>(
 
 // The first command is done, and with a set those behind it, and their outcomes appended. The answer is how many those are.
 #[inline(always)]
-fn apply_next<W: MergeTarget>(world: &mut W, commands: &[Command], outcomes: &mut Outcomes) -> usize
+fn apply_next<W: MergeTarget>(
+    world: &mut W,
+    commands: &[Recorded],
+    outcomes: &mut Outcomes,
+) -> usize
     requires some { 0 < length commands.now }
     requires room { length outcomes.old.outcomes + length commands.now ≤ outcomes.old.room }
     ensures some { 0 < result }
@@ -73,7 +77,7 @@ fn apply_next<W: MergeTarget>(world: &mut W, commands: &[Command], outcomes: &mu
     ensures done { AreDone (W.world world.old) (commands_of (take result commands.now))
         outcomes.old outcomes.new (W.world world.new) }
 {
-    if let Command::Set(_, _, _) = &commands[0] {
+    if commands[0].as_set().is_some() {
         return apply_first_sets(world, commands, outcomes);
     }
     apply_one(world, &commands[0], outcomes);
@@ -81,7 +85,7 @@ fn apply_next<W: MergeTarget>(world: &mut W, commands: &[Command], outcomes: &mu
 }
 
 // The commands are done, one after another, and their outcomes appended.
-fn apply_each<W: MergeTarget>(world: &mut W, commands: &[Command], outcomes: &mut Outcomes)
+fn apply_each<W: MergeTarget>(world: &mut W, commands: &[Recorded], outcomes: &mut Outcomes)
     requires { length outcomes.old.outcomes + length commands.now ≤ outcomes.old.room }
     ensures { AreDone (W.world world.old) (commands_of commands.now) outcomes.old outcomes.new
         (W.world world.new) }

@@ -1,8 +1,10 @@
 //! A list of commands.
 ghost use Rattle.std.specs.Prelude.{◌≡◌, ◌==◌, ◌+◌, ◌≤◌, ◌++◌, ◌∷◌, [], length, take, vec_capacity, vec_len, IfErr, OnErr, OnOk};
-ghost use Rattle.eco_stages.specs.Commands.{command_of, commands_of};
+ghost use Rattle.eco_stages.specs.Commands.{command_of};
+ghost use Rattle.eco_stages.specs.Recorded.{commands_of};
 
 use crate::command::Command;
+use crate::recorded::Recorded;
 use std::alloc::{AllocError, Global};
 use std::marker::Model;
 
@@ -10,7 +12,7 @@ use std::marker::Model;
 /// by side, each in a stage of its own, and a merge runs all of them (Flecs manual, Systems, staging).
 #[derive(Debug)]
 pub struct Stage {
-    commands: Vec<Command>,
+    commands: Vec<Recorded>,
 }
 
 // By hand, so that dropping it is one call: a derived drop is proved anew at each early return of whoever holds it.
@@ -23,7 +25,7 @@ impl Drop for Stage {
 impl Model for Stage {
     ghost use Rattle.std.specs.Prelude.{List};
     ghost use Rattle.eco_ids.specs.Run.{Command};
-    ghost use Rattle.eco_stages.specs.Commands.{commands_of};
+    ghost use Rattle.eco_stages.specs.Recorded.{commands_of};
 
     ghost Value = { List Command };
 
@@ -51,12 +53,13 @@ impl Stage {
         if self.commands.len() == self.commands.capacity() && self.commands.reserve(1).is_err() {
             return Err(command);
         }
-        self.commands.push_reserved(command);
+        let recorded = Recorded::of(*self.commands.allocator(), command)?;
+        self.commands.push_reserved(recorded);
         Ok(())
     }
 
-    /// The commands, in their order.
-    pub fn commands(&self) -> &[Command]
+    /// The commands as they are kept, in their order.
+    pub fn commands(&self) -> &[Recorded]
         ensures { commands_of result.now ≡ self.now }
     {
         self.commands.as_slice()
@@ -102,7 +105,7 @@ impl Stage {
 }
 
 // Copies of the commands come last, in room that is there. An `Err` leaves those that were copied until then.
-fn push_copies(list: &mut Vec<Command>, commands: &[Command]) -> Result<(), AllocError>
+fn push_copies(list: &mut Vec<Recorded>, commands: &[Recorded]) -> Result<(), AllocError>
     requires { vec_len list.old + length commands.now ≤ vec_capacity list.old }
     ensures ok { OnOk result (commands_of list.new.items
         ≡ commands_of list.old.items ++ commands_of commands.now) }

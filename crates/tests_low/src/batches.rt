@@ -5,7 +5,7 @@ ghost use Rattle.eco_ids.specs.declared.refusal.Refusal.TheVariants.{OutOfMemory
 ghost use Rattle.eco_ids.specs.declared.entity.TheConstants.{CHILD_OF};
 
 use eco_ids::{Entity, Id, Refusal};
-use eco_stages::{Command, Draws, Stage};
+use eco_stages::{Command, Draws, Recorded, Stage};
 use eco_workers::{Piece, run_batch};
 use std::alloc::Global;
 use std::sync::atomic::{AtomicU64, Ordering};
@@ -154,15 +154,15 @@ impl Piece for Twice<'_> {
 }
 
 // Whether the command makes the entity of an index.
-fn makes(command: &Command, index: u32) -> bool {
+fn makes(command: &Recorded, index: u32) -> bool {
     match command {
-        Command::Create(made) => made.index == index,
+        Recorded::Create(made) => made.index == index,
         _ => false,
     }
 }
 
 // Whether of two commands the one at a place makes the entity of an index.
-fn makes_at(commands: &[Command], place: usize, index: u32) -> bool {
+fn makes_at(commands: &[Recorded], place: usize, index: u32) -> bool {
     match commands.get(place) {
         Some(command) => commands.len() == 2 && makes(command, index),
         None => false,

@@ -14,4 +14,6 @@ mod rounds;
 #[cfg(test)]
 mod rows;
 #[cfg(test)]
+mod stages;
+#[cfg(test)]
 mod types;

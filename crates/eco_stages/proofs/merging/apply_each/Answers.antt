@@ -1,4 +1,4 @@
-use Rattle.eco_stages.proofs.Common.{drop, take, ap, ◌∙◌, subst, length-drop, length-map, length-take-le, map-append, take_rest, arith, command_of}
+use Rattle.eco_stages.proofs.Common.{drop, take, ap, ◌∙◌, subst, length-drop, length-map, length-take-le, map-append, take_rest, arith, recorded_command}
 use Rattle.eco_stages.proofs.Common.{commands_of, AreDone}
 use Rattle.std.proofs.Math.Seq.{take-add}
 use Rattle.eco_stages.proofs.Merges.{both_done, grown, none_done}
@@ -14,7 +14,7 @@ apply_next-done-requires-clause-room g c =
     let was = c.loop-done.invariant.are_done in
     let more = grown (g.W.MergeTarget.world c.args.world.now) (g.W.MergeTarget.world c.loop-done.world) (commands_of (take i cs)) c.args.outcomes.now
     c.loop-done.outcomes was in
-    omega (arith, more, was.room, length-map (take i cs) command_of, length-take-le i cs c.loop-done.invariant.within, length-drop i cs, c.requires)
+    omega (arith, more, was.room, length-map (take i cs) recorded_command, length-take-le i cs c.loop-done.invariant.within, length-drop i cs, c.requires)
 
 pub loop-done-preserved : goal.loop-done-preserved
 loop-done-preserved g c =
@@ -25,7 +25,7 @@ loop-done-preserved g c =
     let w = g.W.MergeTarget.world c.args.world.now in
     let mid = g.W.MergeTarget.world c.loop-done.world in
     let new = g.W.MergeTarget.world c.apply_next-done.new.world in
-    let more = ap commands_of (take-add i n cs) ∙ map-append command_of (take i cs) (take n (drop i cs)) in
+    let more = ap commands_of (take-add i n cs) ∙ map-append recorded_command (take i cs) (take n (drop i cs)) in
     record {
       within = omega (arith, c.apply_next-done.ensures.within, length-drop i cs, was.within);
       are_done =

@@ -1,4 +1,4 @@
-use Rattle.eco_stages.proofs.Common.{◌≡◌, ◌++◌, length, get_or, take, sym, ap, ◌∙◌, length-map, arith, command_of, commands_of, all_commands}
+use Rattle.eco_stages.proofs.Common.{◌≡◌, ◌++◌, length, get_or, take, sym, ap, ◌∙◌, length-map, arith, recorded_command, commands_of, all_commands}
 use Rattle.std.proofs.lemmas.List.Folds.{length-flat_map-take}
 use Rattle.eco_stages.proofs.Merges.{none_done, both_done, grown, stage_more}
 use Rattle.eco_stages.proofs.merging.apply_stages.Goals as goal
@@ -11,7 +11,7 @@ apply_each-requires g c =
     let i = c.loop-stage.stage-index in
     let s = c.stage-item.result in
     let was = c.loop-stage.invariant.are_done in
-    let own : length c.commands.result.now ≡ length s = sym (length-map c.commands.result.now command_of) ∙ ap length c.commands.ensures in
+    let own : length c.commands.result.now ≡ length s = sym (length-map c.commands.result.now recorded_command) ∙ ap length c.commands.ensures in
     let there : length s ≡ length (get_or c.args.stages.now i s) = ap length c.stage-item.is in
     let fits = length-flat_map-take (λ t. t) c.args.stages.now i s c.loop-stage-test.true in
     let more = grown (g.W.MergeTarget.world c.args.world.now) (g.W.MergeTarget.world c.loop-stage.world) (all_commands (take i c.args.stages.now))

@@ -21,8 +21,10 @@ move_row-requires-clause-widths c =
     let made = two_kept _ _ to from _ c.in_ok-to.ensures.sets apart (two_set _ _ from _ c.in_ok-from.ensures.sets refl) in
     let pushed = two_set _ _ from _ c.push_row.ensures (two_set _ _ from _ c.reserve_rows.ensures.sets made) in
     let written = two_set _ _ from _ c.set_value.ensures.written pushed in
-    let source = two_kept _ _ to from _ c.reserve_more.ensures.sets apart (two_kept _ _ to from _ c.waive.ensures apart written) in
+    let waived = two_kept _ _ to from _ c.waive.ensures apart written in
+    let source = two_kept _ _ to from _ c.reserve_more.ensures.sets apart (two_kept _ _ to from _ c.shrink.ensures apart waived) in
     let new = two_set _ _ to _ c.in_ok-to.ensures.sets refl in
     let beside = two_kept _ _ from to _ c.push_row.ensures back (two_kept _ _ from to _ c.reserve_rows.ensures.sets back new) in
-    let target = two_set _ _ to _ c.waive.ensures (two_kept _ _ from to _ c.set_value.ensures.written back beside) in
+    let emptied = two_set _ _ to _ c.waive.ensures (two_kept _ _ from to _ c.set_value.ensures.written back beside) in
+    let target = two_set _ _ to _ c.shrink.ensures emptied in
     two_agree c.reserve_more.new.self to from (two_set _ _ to _ c.reserve_more.ensures.sets target) source

@@ -4,7 +4,7 @@ ghost use Rattle.std.specs.Prelude.{[]};
 use crate::handles::at;
 use eco_bodies::{Action, Draws, LentRow, Script, SystemBody};
 use eco_ids::{Entity, Id, Refusal, Value};
-use eco_world::{Command, Stage, World};
+use eco_world::{Recorded, Stage, World};
 use std::alloc::Global;
 
 // Has no handle to draw, and notes that one was asked for.
@@ -45,10 +45,10 @@ fn record(script: &Script, stage: &mut Stage) -> Result<(), Refusal> {
 }
 
 // Whether the command is the set of that row.
-fn is_set(command: &Command) -> bool {
-    match command {
-        Command::Set(entity, _, value) => entity.is(at(13)) && *value == Value::of([7]),
-        _ => false,
+fn is_set(command: &Recorded) -> bool {
+    match command.as_set() {
+        Some((entity, _, value)) => entity.is(at(13)) && value == Value::of([7]),
+        None => false,
     }
 }
 

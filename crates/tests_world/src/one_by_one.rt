@@ -4,7 +4,7 @@ use crate::plans::{Deeds, FramePlan};
 use eco_bodies::Action;
 use eco_ids::{Entity, FIELD_COUNT, Id, Refusal, Value};
 use eco_systems::{PHASES, Phase};
-use eco_world::{Command, Report, Row, Stage, World};
+use eco_world::{Command, Recorded, Report, Row, Stage, World};
 use std::alloc::{AllocError, Global};
 
 /// A command that was merged: what it does, if that is a deed, and whether it was done.
@@ -78,7 +78,7 @@ pub fn number_of(outcome: Result<(), Refusal>) -> u8 {
 }
 
 // What a command does, if there is one and that is a deed.
-fn deed_of(command: Option<&Command>) -> Option<Deed> {
+fn deed_of(command: Option<&Recorded>) -> Option<Deed> {
     Deed::of(command?)
 }
 

@@ -1,7 +1,7 @@
 //! Who has which id, as a plain list, and what is done to it. Those who live from the start are not in it, and it refuses nothing.
 use eco_ids::entity::{ACYCLIC, EXCLUSIVE, SYMMETRIC, WITH};
 use eco_ids::{Entity, Id, Refusal, Value};
-use eco_world::{Command, World};
+use eco_world::{Recorded, World};
 use std::alloc::{AllocError, Global};
 use std::mem;
 
@@ -64,25 +64,29 @@ pub enum Deed {
 
 impl Deed {
     /// What a command does, if that is any of these.
-    pub fn of(command: &Command) -> Option<Deed> {
+    pub fn of(command: &Recorded) -> Option<Deed> {
         match command {
-            Command::Add(holder, id) => Some(Deed::Add(Had {
+            Recorded::Add(holder, id) => Some(Deed::Add(Had {
                 holder: *holder,
                 id: *id,
             })),
-            Command::Set(holder, id, _) => Some(Deed::Set(Had {
+            Recorded::Set(holder, id, _) => Some(Deed::Set(Had {
                 holder: *holder,
                 id: *id,
             })),
-            Command::Remove(holder, id) => Some(Deed::Remove(Had {
+            Recorded::SetWide(holder, id, _) => Some(Deed::Set(Had {
                 holder: *holder,
                 id: *id,
             })),
-            Command::Clear(entity) => Some(Deed::Clear(*entity)),
-            Command::RemoveAll(id) => Some(Deed::RemoveAll(*id)),
-            Command::Delete(entity) => Some(Deed::Delete(*entity)),
-            Command::DeleteWith(id) => Some(Deed::DeleteWith(*id)),
-            Command::Create(_) | Command::Rename(_, _) => None,
+            Recorded::Remove(holder, id) => Some(Deed::Remove(Had {
+                holder: *holder,
+                id: *id,
+            })),
+            Recorded::Clear(entity) => Some(Deed::Clear(*entity)),
+            Recorded::RemoveAll(id) => Some(Deed::RemoveAll(*id)),
+            Recorded::Delete(entity) => Some(Deed::Delete(*entity)),
+            Recorded::DeleteWith(id) => Some(Deed::DeleteWith(*id)),
+            Recorded::Create(_) | Recorded::Rename(_, _) => None,
         }
     }
 

@@ -1,18 +1,20 @@
 //! What stages recorded is done.
-ghost use Rattle.std.specs.Prelude.{◌+◌, ◌≤◌, ◌<◌, ◌&&◌, ◌∷◌, [], IfSome, nat_lt, length, take};
+ghost use Rattle.std.specs.Prelude.{◌≡◌, ◌+◌, ◌≤◌, ◌<◌, ◌&&◌, ◌∷◌, [], IfSome, IsFalse, IsTrue, nat_lt, length, take};
 ghost use Rattle.eco_ids.specs.Births.{Admits, MakesAlive, may_admit, may_make_alive};
 ghost use Rattle.eco_ids.specs.Outcome.{Meets};
 ghost use Rattle.eco_ids.specs.Run.{Applies, Set, may_want};
-ghost use Rattle.eco_ids.specs.World.{entities, OnEntities};
-ghost use Rattle.eco_stages.specs.Commands.{command_of, commands_of};
+ghost use Rattle.eco_ids.specs.World.{entities, padded, OnEntities};
 ghost use Rattle.eco_stages.specs.Merging.{all_commands, AreDone};
+ghost use Rattle.eco_stages.specs.Recorded.{commands_of, recorded_command};
 ghost use Rattle.eco_world.specs.Merging.{Merges, may_merge};
 ghost use Rattle.eco_world.specs.Setting.{IsSettable};
 
 use crate::settable::Settable;
 use crate::world::World;
 use eco_ids::{Entity, Id, Refusal, Value};
-use eco_stages::{Command, MergeTarget, Outcomes, Report, Stage, apply_stages, room_for};
+use eco_stages::{
+    KEPT_FIELDS, MergeTarget, Outcomes, Recorded, Report, Stage, apply_stages, room_for,
+};
 
 impl World {
     /// Makes `admitted` more indices known, at generation 0, and then does the commands of all stages, stage by stage and each
@@ -45,9 +47,35 @@ impl World {
         self.store.admit(count)
     }
 
-    // The set is done, and its outcome appended.
+    // The set to a value of few fields is done, and its outcome appended.
     #[inline(always)]
-    fn set_in_turn(
+    fn set_few(
+        &mut self,
+        known: &mut Option<Settable>,
+        entity: Entity,
+        id: Id,
+        fields: &[i64; KEPT_FIELDS],
+        outcomes: &mut Outcomes,
+    )
+        requires known { IfSome known.old (λ s. IsSettable self.old s.id s.arity) }
+        requires room { length outcomes.old.outcomes < outcomes.old.room }
+        ensures done { AreDone self.old (Set entity id (padded fields.now) ∷ [])
+            outcomes.old outcomes.new self.new }
+        ensures known { IfSome known.new (λ s. IsSettable self.new s.id s.arity) }
+    {
+        eco_stages::laws::commands_are_done_in_turn();
+        if self.rewrite(known, entity, id, Value::of(*fields)) {
+            outcomes.push(Ok(()));
+            return;
+        }
+        let outcome = self.set_apart(known, entity, id, fields);
+        outcomes.push(outcome);
+    }
+
+    // The set to a value of more fields is done, and its outcome appended. Apart, so that what these keep takes no room where
+    // values have few.
+    #[inline(never)]
+    fn set_wide(
         &mut self,
         known: &mut Option<Settable>,
         entity: Entity,
@@ -61,12 +89,37 @@ impl World {
         ensures known { IfSome known.new (λ s. IsSettable self.new s.id s.arity) }
     {
         eco_stages::laws::commands_are_done_in_turn();
-        if self.rewrite(known, entity, id, *value) {
-            outcomes.push(Ok(()));
-            return;
-        }
-        let outcome = self.set_apart(known, entity, id, value);
+        let outcome = self.set_after(known, entity, id, *value);
         outcomes.push(outcome);
+    }
+
+    // A set is done, and its outcome appended; another command isn't. The answer is whether it is a set.
+    #[inline(always)]
+    fn set_next(
+        &mut self,
+        known: &mut Option<Settable>,
+        command: &Recorded,
+        outcomes: &mut Outcomes,
+    ) -> bool
+        requires known { IfSome known.old (λ s. IsSettable self.old s.id s.arity) }
+        requires room { length outcomes.old.outcomes < outcomes.old.room }
+        ensures done { IsTrue result → AreDone self.old (recorded_command command.now ∷ [])
+            outcomes.old outcomes.new self.new }
+        ensures known { IsTrue result → IfSome known.new (λ s. IsSettable self.new s.id s.arity) }
+        ensures same { IsFalse result → self.new ≡ self.old }
+        ensures none { IsFalse result → outcomes.new ≡ outcomes.old }
+    {
+        match command {
+            Recorded::Set(entity, id, fields) => {
+                self.set_few(known, *entity, *id, fields, outcomes);
+                true
+            }
+            Recorded::SetWide(entity, id, value) => {
+                self.set_wide(known, *entity, *id, value, outcomes);
+                true
+            }
+            _ => false,
+        }
     }
 
     // This very handle lives, without name and ids.
@@ -81,20 +134,21 @@ impl World {
     // What `apply` does, also with a command that is rare in long stages. Apart, so that what these keep takes no room where
     // entities come and get ids.
     #[inline(never)]
-    fn apply_rest(&mut self, command: &Command) -> Result<(), Refusal>
-        ensures { Meets (Applies (command_of command.now) self.old)
-            (may_want (command_of command.now) self.old) self.old result self.new }
+    fn apply_rest(&mut self, command: &Recorded) -> Result<(), Refusal>
+        ensures { Meets (Applies (recorded_command command.now) self.old)
+            (may_want (recorded_command command.now) self.old) self.old result self.new }
     {
         match command {
-            Command::Create(entity) => self.make_alive(*entity),
-            Command::Add(entity, id) => self.add(*entity, *id),
-            Command::Remove(entity, id) => self.remove(*entity, *id),
-            Command::Set(entity, id, value) => self.set(*entity, *id, *value),
-            Command::Clear(entity) => self.clear(*entity),
-            Command::Rename(entity, name) => self.rename(*entity, name.as_deref()),
-            Command::Delete(entity) => self.delete(*entity),
-            Command::DeleteWith(id) => self.delete_with(*id),
-            Command::RemoveAll(id) => self.remove_all(*id),
+            Recorded::Create(entity) => self.make_alive(*entity),
+            Recorded::Add(entity, id) => self.add(*entity, *id),
+            Recorded::Remove(entity, id) => self.remove(*entity, *id),
+            Recorded::Set(entity, id, fields) => self.set(*entity, *id, Value::of(*fields)),
+            Recorded::SetWide(entity, id, value) => self.set(*entity, *id, **value),
+            Recorded::Clear(entity) => self.clear(*entity),
+            Recorded::Rename(entity, name) => self.rename(*entity, name.as_deref()),
+            Recorded::Delete(entity) => self.delete(*entity),
+            Recorded::DeleteWith(id) => self.delete_with(*id),
+            Recorded::RemoveAll(id) => self.remove_all(*id),
         }
     }
 }
@@ -102,25 +156,24 @@ impl World {
 impl MergeTarget for World {
     ghost world = { λ w. w };
 
-    fn apply(&mut self, command: &Command) -> Result<(), Refusal> {
+    fn apply(&mut self, command: &Recorded) -> Result<(), Refusal> {
         match command {
-            Command::Create(entity) => self.make_alive(*entity),
-            Command::Add(entity, id) => self.add(*entity, *id),
+            Recorded::Create(entity) => self.make_alive(*entity),
+            Recorded::Add(entity, id) => self.add(*entity, *id),
             _ => self.apply_rest(command),
         }
     }
 
     // Apart, so that what sets keep takes no room where others are done.
     #[inline(never)]
-    fn apply_sets(&mut self, commands: &[Command], outcomes: &mut Outcomes) -> usize {
+    fn apply_sets(&mut self, commands: &[Recorded], outcomes: &mut Outcomes) -> usize {
         eco_stages::laws::commands_are_done_in_turn();
         let mut known = None;
         let mut count = 0;
         while count < commands.len() {
-            let Command::Set(entity, id, value) = &commands[count] else {
+            if !self.set_next(&mut known, &commands[count], outcomes) {
                 return count;
-            };
-            self.set_in_turn(&mut known, *entity, *id, value, outcomes);
+            }
             count += 1;
         }
         count

@@ -2,6 +2,7 @@
 ghost use Rattle.std.specs.Prelude.{◌≡◌, IfErr, IfOk, IfSome, IsFalse, IsTrue, Ok, OnOk};
 ghost use Rattle.eco_ids.specs.Outcome.{Meets};
 ghost use Rattle.eco_ids.specs.Step.{Sets, may_set};
+ghost use Rattle.eco_ids.specs.World.{padded};
 ghost use Rattle.eco_world.specs.Actor.{MaySet, MayNotSet};
 ghost use Rattle.eco_world.specs.Setting.{IsSettable, IsUnsettable};
 
@@ -9,6 +10,7 @@ use crate::settable::Settable;
 use crate::world::World;
 use crate::world::changes::is_zero_past;
 use eco_ids::{Entity, Id, Refusal, Value};
+use eco_stages::KEPT_FIELDS;
 
 impl World {
     // What `set` does. Of an id that is known nothing is asked. The id of a value that was written is known then.
@@ -76,21 +78,21 @@ impl World {
         is_zero_past(value, settable.arity)
     }
 
-    // What `set_after` does, apart.
+    // What `set_after` does with a value of these fields, apart.
     #[inline(never)]
     pub(crate) fn set_apart(
         &mut self,
         known: &mut Option<Settable>,
         entity: Entity,
         id: Id,
-        value: &Value,
+        fields: &[i64; KEPT_FIELDS],
     ) -> Result<(), Refusal>
         requires { IfSome known.old (λ s. IsSettable self.old s.id s.arity) }
-        ensures met { Meets (Sets self.old entity id value.now) (may_set self.old entity id value.now)
-            self.old result self.new }
+        ensures met { Meets (Sets self.old entity id (padded fields.now))
+            (may_set self.old entity id (padded fields.now)) self.old result self.new }
         ensures known { IfSome known.new (λ s. IsSettable self.new s.id s.arity) }
     {
-        self.set_after(known, entity, id, *value)
+        self.set_after(known, entity, id, Value::of(*fields))
     }
 
     // Whether the entity may have this value at the id.

@@ -11,6 +11,10 @@ use eco_tables::Tables;
 // So much room is worth more than the table costs to be made again, once as many rows have come.
 const MUCH_ROOM: usize = 1024;
 
+// So much room is worth more than what it costs to give it back and to ask for it anew: a page of memory that is new costs as
+// much as the moves of some rows.
+const SLACK_ROOM: usize = 131_072;
+
 // Whether the table in a slot has much room.
 fn is_large(tables: &Tables, slot: TableSlot) -> bool
     ensures { IsTrue result → MUCH_ROOM ≤ (table_in tables.now slot).room }
@@ -27,7 +31,7 @@ fn is_slack(tables: &Tables, slot: TableSlot) -> bool
     ensures { IsTrue result → IsSome (slot_of tables.now slot) }
 {
     match tables.get(slot) {
-        Some(table) => table.room() >= MUCH_ROOM && table.room() > table.row_count(),
+        Some(table) => table.room() >= SLACK_ROOM && table.room() > table.row_count(),
         None => false,
     }
 }

@@ -1,11 +1,11 @@
 -- Tables keep what values may need, whatever is done to them.
-use Rattle.eco_archetypes.proofs.Common.{◌≡◌, ◌≢◌, ◌⊎◌, ◌++◌, ◌-◌, ◌≤◌, ◌<◌, ◌==◌, ◌&&◌, ℕ, zero, suc, ◌+◌}
-use Rattle.eco_archetypes.proofs.Common.{ℤ, pos, min, Bool, true, false, cond, IsTrue, List, [], ◌∷◌, length, replicate, take, drop, get_or, Option}
+use Rattle.eco_archetypes.proofs.Common.{◌≡◌, ◌≢◌, ◌⊎◌, ◌++◌, ◌≤◌, ◌<◌, ◌==◌, ◌&&◌, ℕ, zero, suc, ◌+◌}
+use Rattle.eco_archetypes.proofs.Common.{ℤ, pos, min, Bool, true, false, cond, IsTrue, List, [], ◌∷◌, length, take, drop, get_or, Option}
 use Rattle.eco_archetypes.proofs.Common.{None, Some, OnSome, IfNone, unwrap_or, refl, sym, ap, ◌∙◌, subst, arith, inl, inr, eqb-true, cases_eq}
-use Rattle.eco_archetypes.proofs.Common.{length-take, length-drop, take-append-drop, take_more, find, All, list_all, int_eq, Id, id_cmp, id_eq, first, second}
-use Rattle.eco_archetypes.proofs.Common.{equal_tie, id_eq_is, TableState, paired, FitsId, width_in, empty_table, slot_of, table_in, no_table, SetsSlot, Moves}
+use Rattle.eco_archetypes.proofs.Common.{take_more, find, All, list_all, int_eq, Id, id_cmp, id_eq, first, second}
+use Rattle.eco_archetypes.proofs.Common.{id_eq_is, TableState, paired, FitsId, width_in, empty_table, slot_of, table_in, no_table, SetsSlot, Moves}
 use Rattle.eco_archetypes.proofs.Common.{MovesAll, need, SameSlots, AreAgreed, MeetsNeeds, KeepsWidths, IsWidth, AreWidths, FitsIn}
-use Rattle.std.proofs.lemmas.Map.Lookups.{exact_signed}
+use Rattle.eco_ids.proofs.Zeros.{few_fields}
 use Rattle.eco_ids.specs.declared.value.Value.{Value}
 use Rattle.eco_ids.specs.declared.value.TheConstants.{FIELD_COUNT}
 use Rattle.eco_ids.specs.Data.{is_zero_past}
@@ -177,21 +177,10 @@ zero_later m k v h few =
     let full : length v.0 ≡ FIELD_COUNT = eqb-true (length v.0) FIELD_COUNT long in
     rw long (all_later (λ x. int_eq x (pos 0)) v.0 m k (omega (arith, full, few)) (second (length v.0 == FIELD_COUNT) _ h))
 
-zeros_are : (xs : List ℤ) → IsTrue (list_all (λ x. int_eq x (pos 0)) xs) → xs ≡ replicate (length xs) (pos 0)
-zeros_are [] all = refl
-zeros_are (x ∷ xs) all =
-    let here : x ≡ pos 0 = exact_signed x (pos 0) (equal_tie _ (first _ _ all)) in
-    let there = zeros_are xs (second _ _ all) in
-    λ t. here t ∷ there t
-
 fits_past : (k : ℕ) (v : Value) → IsTrue ((length v.0 == FIELD_COUNT) && is_zero_past k v) → Fits k v
 fits_past k v h =
     let full : length v.0 ≡ FIELD_COUNT = eqb-true (length v.0) FIELD_COUNT (first _ _ h) in
-    let rest : drop k v.0 ≡ replicate (length (drop k v.0)) (pos 0) = zeros_are (drop k v.0) (second (length v.0 == FIELD_COUNT) _ h) in
-    let taken = length-take k v.0 in
-    let dropped = length-drop k v.0 in
-    let many : length (drop k v.0) ≡ FIELD_COUNT - length (take k v.0) = omega (arith, full, taken, dropped) in
-    ap of_fields (sym (take-append-drop k v.0) ∙ ap (λ ys. take k v.0 ++ ys) (rest ∙ ap (λ n. replicate n (pos 0)) many))
+    ap of_fields (sym (few_fields k v full (second (length v.0 == FIELD_COUNT) _ h)))
   where
     of_fields : List ℤ → Value
     of_fields xs = record { 0 = xs }

@@ -277,9 +277,17 @@ impl Archetypes {
     }
 
     /// Writes the value of an id in a row, which has no more fields than the tables keep of it, and takes no memory. The answer
-    /// is whether the table's type has the id; where it lacks it nothing is written.
+    /// is whether the table's type has the id; where it lacks it nothing is written. The id's column is looked for at the place
+    /// `near` first, where it is remembered.
     #[inline(always)]
-    pub fn set_value(&mut self, slot: TableSlot, row: usize, id: Id, value: Value) -> bool
+    pub fn set_value(
+        &mut self,
+        slot: TableSlot,
+        row: usize,
+        id: Id,
+        value: Value,
+        near: &mut usize,
+    ) -> bool
         requires row { row < length (table_in self.old slot).rows }
         requires fits { FitsIn self.old id value }
         ensures written { SetsSlot self.old self.new slot
@@ -287,7 +295,7 @@ impl Archetypes {
         ensures had { result ≡ is_some (find id_cmp id (row_in self.old slot row).held) }
         ensures widths { KeepsWidths self.old self.new }
     {
-        self.tables.set_value(slot, row, id, value)
+        self.tables.set_value(slot, row, id, value, near)
     }
 
     /// A row for a new entity, with zeros, in room that was reserved.

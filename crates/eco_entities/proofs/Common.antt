@@ -1,7 +1,8 @@
 -- The names that most proofs here cite, passed on from one place. Declares nothing.
 pub use Rattle.std.proofs.Common.{Bool, Err, IfOk, IsTrue, List, MatchOption, None, Ok, Option, Result, Some, [], ap, arith, bit_or, cond, drop, eq-eqb, eqb}
 pub use Rattle.std.proofs.Common.{eqb-true, false, get_or, if◌then◌else◌, inl, inr, is_some, length, lit<, map, max, min, nat_le, nat_lt, not}
-pub use Rattle.std.proofs.Common.{option_and_then, option_copied, option_map, refl, replicate, rules, set, slice_get, slice_index, slice_set, subst, suc, sym, IsSome}
+pub use Rattle.std.proofs.Common.{option_and_then, option_copied, option_map, refl, replicate, rules, set, slice_get, slice_index, slice_set, subst}
+pub use Rattle.std.proofs.Common.{suc, sym, IsSome}
 pub use Rattle.std.proofs.Common.{take, true, vec_capacity, vec_len, zero, ℕ, ◌%◌, ◌&&◌, ◌*◌, ◌++◌, ◌+◌, ◌-◌, ◌/◌, ◌<◌}
 pub use Rattle.std.proofs.Common.{◌==◌, ◌^◌, ◌∙◌, ◌∷◌, ◌≡◌, ◌≢◌, ◌≤◌, ◌⊎◌}
 pub use Rattle.std.proofs.lemmas.Bool.{MatchBool-at_false, MatchBool-at_true, and_parts, cases_Bool, cases_eq, cases_lt, cond-false, cond-true, eqb-false}

@@ -79,5 +79,6 @@ closed_up xs g n e =
     let long = length-drop g xs in
     let same : length xs - g ≡ n = omega arith in
     ap (λ k. take n (take 0 xs ++ take k (drop g xs) ++ drop (0 + k) xs)) same
-    ∙ ap (λ k. take k (take 0 xs ++ take n (drop g xs) ++ drop (0 + n) xs)) {x = n} {y = 0 + n} (omega arith) ∙ take-paste xs 0 (drop g xs) n (omega arith) (omega arith)
+    ∙ ap (λ k. take k (take 0 xs ++ take n (drop g xs) ++ drop (0 + n) xs)) {x = n} {y = 0 + n} (omega arith)
+    ∙ take-paste xs 0 (drop g xs) n (omega arith) (omega arith)
     ∙ take_all n (drop g xs) (omega arith)

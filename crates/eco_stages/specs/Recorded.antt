@@ -1,5 +1,6 @@
 -- What a stage keeps of commands means.
-use Rattle.std.specs.Prelude.{List, map, Option, None, Some, option_map, string_bytes}
+use Rattle.std.specs.Prelude.{◌≡◌, All, Bool, List, None, Option, Some, false, map, option_map, string_bytes, true}
+use Rattle.std.specs.Mem.{manually_drop_value}
 use Rattle.eco_ids.specs.Run as run
 use Rattle.eco_ids.specs.World.{padded}
 use Rattle.eco_ids.specs.declared.entity.Entity.{Entity}
@@ -14,9 +15,9 @@ recorded_command (Create e) = run.Create e
 recorded_command (Add e i) = run.Add e i
 recorded_command (Remove e i) = run.Remove e i
 recorded_command (Set e i fields) = run.Set e i (padded fields)
-recorded_command (SetWide e i v) = run.Set e i v.value
+recorded_command (SetWide e i v) = run.Set e i (manually_drop_value v).value
 recorded_command (Clear e) = run.Clear e
-recorded_command (Rename e name) = run.Rename e (option_map string_bytes name)
+recorded_command (Rename e name) = run.Rename e (option_map string_bytes (manually_drop_value name))
 recorded_command (Delete e) = run.Delete e
 recorded_command (DeleteWith i) = run.DeleteWith i
 recorded_command (RemoveAll i) = run.RemoveAll i
@@ -24,6 +25,16 @@ recorded_command (RemoveAll i) = run.RemoveAll i
 -- each of them
 abbrev pub commands_of : List Recorded → List run.Command
 commands_of commands = map recorded_command commands
+
+-- it owns memory
+abbrev pub owns : Recorded → Bool
+owns (SetWide e i v) = true
+owns (Rename e name) = true
+owns _ = false
+
+-- unless there are owners, none of the commands owns memory
+abbrev pub OwnNothing : Bool → List Recorded → Type 0
+OwnNothing has_owners commands = has_owners ≡ false → All (λ r. owns r ≡ false) commands
 
 -- what a set sets
 abbrev pub parts_of_set : run.Command → Option (Entity × Id × Value)

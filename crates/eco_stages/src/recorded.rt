@@ -6,18 +6,20 @@ ghost use Rattle.eco_ids.specs.Data.{is_zero_past};
 ghost use Rattle.eco_ids.specs.Run.{Set};
 ghost use Rattle.eco_ids.specs.World.{padded};
 ghost use Rattle.eco_stages.specs.Commands.{command_of};
-ghost use Rattle.eco_stages.specs.Recorded.{recorded_command, parts_of_set};
+ghost use Rattle.eco_stages.specs.Recorded.{owns, parts_of_set, recorded_command};
 
 use crate::command::Command;
 use eco_ids::{Entity, Id, Value};
 use std::alloc::{AllocError, Global};
+use std::mem::ManuallyDrop;
 
 /// So many fields of a value stand in the recorded command itself: most values have no more, and with them it is as long as a
 /// line of the processor's cache.
 pub const KEPT_FIELDS: usize = 4;
 
 /// A command as a stage keeps it. A value with a field past the first four that isn't 0, as only the second edition of the rules
-/// has them, stands apart, so that all other commands take no room for such fields.
+/// has them, stands apart, so that all other commands take no room for such fields. What a command owns is given up by its stage,
+/// which knows whether there is such a command: so a stage without one is emptied at once.
 #[derive(Debug, Drop)]
 pub enum Recorded {
     /// [`Command::Create`].
@@ -29,11 +31,11 @@ pub enum Recorded {
     /// [`Command::Set`] to the value of these fields, with zeros behind them.
     Set(Entity, Id, [i64; KEPT_FIELDS]),
     /// [`Command::Set`] to a value of more fields.
-    SetWide(Entity, Id, Box<Value>),
+    SetWide(Entity, Id, ManuallyDrop<Box<Value>>),
     /// [`Command::Clear`].
     Clear(Entity),
     /// [`Command::Rename`].
-    Rename(Entity, Option<String>),
+    Rename(Entity, ManuallyDrop<Option<String>>),
     /// [`Command::Delete`].
     Delete(Entity),
     /// [`Command::DeleteWith`].
@@ -109,7 +111,7 @@ impl Recorded {
             return Ok(Recorded::Set(entity, id, fields));
         }
         match boxed(alloc, value) {
-            Ok(apart) => Ok(Recorded::SetWide(entity, id, apart)),
+            Ok(apart) => Ok(Recorded::SetWide(entity, id, ManuallyDrop::new(apart))),
             Err(_) => Err(Command::Set(entity, id, value)),
         }
     }
@@ -126,11 +128,28 @@ impl Recorded {
             Command::Remove(entity, id) => Recorded::Remove(entity, id),
             Command::Set(entity, id, value) => return Recorded::of_set(alloc, entity, id, value),
             Command::Clear(entity) => Recorded::Clear(entity),
-            Command::Rename(entity, name) => Recorded::Rename(entity, name),
+            Command::Rename(entity, name) => Recorded::Rename(entity, ManuallyDrop::new(name)),
             Command::Delete(entity) => Recorded::Delete(entity),
             Command::DeleteWith(id) => Recorded::DeleteWith(id),
             Command::RemoveAll(id) => Recorded::RemoveAll(id),
         })
+    }
+
+    // Whether the command may own memory.
+    #[inline(always)]
+    pub(crate) fn is_owner(&self) -> bool
+        ensures { result ≡ owns self.now }
+    {
+        matches!(self, Recorded::SetWide(_, _, _) | Recorded::Rename(_, _))
+    }
+
+    // Gives up what the command owns.
+    pub(crate) fn give_up(self) {
+        match self {
+            Recorded::SetWide(_, _, value) => drop(ManuallyDrop::into_inner(value)),
+            Recorded::Rename(_, name) => drop(ManuallyDrop::into_inner(name)),
+            _ => {}
+        }
     }
 
     /// What a set sets: the entity, the id and the value. None, if this is another command.
@@ -140,7 +159,7 @@ impl Recorded {
     {
         match self {
             Recorded::Set(entity, id, fields) => Some((*entity, *id, Value::of(*fields))),
-            Recorded::SetWide(entity, id, value) => Some((*entity, *id, **value)),
+            Recorded::SetWide(entity, id, value) => Some((*entity, *id, ***value)),
             _ => None,
         }
     }
@@ -155,10 +174,12 @@ impl Recorded {
             Recorded::Remove(entity, id) => Recorded::Remove(*entity, *id),
             Recorded::Set(entity, id, fields) => Recorded::Set(*entity, *id, *fields),
             Recorded::SetWide(entity, id, value) => {
-                Recorded::SetWide(*entity, *id, boxed(alloc, **value)?)
+                Recorded::SetWide(*entity, *id, ManuallyDrop::new(boxed(alloc, ***value)?))
             }
             Recorded::Clear(entity) => Recorded::Clear(*entity),
-            Recorded::Rename(entity, name) => Recorded::Rename(*entity, name_copy(alloc, name)?),
+            Recorded::Rename(entity, name) => {
+                Recorded::Rename(*entity, ManuallyDrop::new(name_copy(alloc, name)?))
+            }
             Recorded::Delete(entity) => Recorded::Delete(*entity),
             Recorded::DeleteWith(id) => Recorded::DeleteWith(*id),
             Recorded::RemoveAll(id) => Recorded::RemoveAll(*id),

@@ -1,7 +1,7 @@
 //! A list of commands.
 ghost use Rattle.std.specs.Prelude.{◌≡◌, ◌==◌, ◌+◌, ◌≤◌, ◌++◌, ◌∷◌, [], length, take, vec_capacity, vec_len, IfErr, OnErr, OnOk};
 ghost use Rattle.eco_stages.specs.Commands.{command_of};
-ghost use Rattle.eco_stages.specs.Recorded.{commands_of};
+ghost use Rattle.eco_stages.specs.Recorded.{commands_of, OwnNothing};
 
 use crate::command::Command;
 use crate::recorded::Recorded;
@@ -13,23 +13,44 @@ use std::marker::Model;
 #[derive(Debug)]
 pub struct Stage {
     commands: Vec<Recorded>,
+    // Whether one of them may own memory, which must be given up before it goes.
+    has_owners: bool,
 }
 
-// By hand, so that dropping it is one call: a derived drop is proved anew at each early return of whoever holds it.
+// By hand, as commands don't give up what they own.
 impl Drop for Stage {
     fn drop(self) {
-        let Stage { commands: _ } = self;
+        let Stage {
+            mut commands,
+            has_owners,
+        } = self;
+        if has_owners {
+            give_up_past(&mut commands, 0);
+        }
+    }
+}
+
+// Takes the commands past so many out, and gives up what they own.
+#[cold]
+#[inline(never)]
+fn give_up_past(commands: &mut Vec<Recorded>, count: usize)
+    ensures { commands.new.items ≡ take count commands.old.items }
+{
+    while commands.len() > count {
+        commands.take_last().give_up();
     }
 }
 
 impl Model for Stage {
     ghost use Rattle.std.specs.Prelude.{List};
     ghost use Rattle.eco_ids.specs.Run.{Command};
-    ghost use Rattle.eco_stages.specs.Recorded.{commands_of};
+    ghost use Rattle.eco_stages.specs.Recorded.{commands_of, OwnNothing};
 
     ghost Value = { List Command };
 
     ghost view = { λ s. commands_of s.commands.items };
+
+    ghost invariant = { λ s. OwnNothing s.has_owners s.commands.items };
 }
 
 impl Stage {
@@ -39,6 +60,7 @@ impl Stage {
     {
         Stage {
             commands: Vec::new(alloc),
+            has_owners: false,
         }
     }
 
@@ -54,6 +76,7 @@ impl Stage {
             return Err(command);
         }
         let recorded = Recorded::of(*self.commands.allocator(), command)?;
+        self.has_owners |= recorded.is_owner();
         self.commands.push_reserved(recorded);
         Ok(())
     }
@@ -83,6 +106,10 @@ impl Stage {
     pub fn clear(&mut self)
         ensures { self.new ≡ [] }
     {
+        if self.has_owners {
+            give_up_past(&mut self.commands, 0);
+            self.has_owners = false;
+        }
         self.commands.clear();
     }
 
@@ -94,10 +121,10 @@ impl Stage {
     {
         let count = self.commands.len();
         self.commands.reserve(other.len())?;
-        match push_copies(&mut self.commands, other.commands()) {
+        match push_copies(&mut self.commands, &mut self.has_owners, other.commands()) {
             Ok(()) => Ok(()),
             Err(refused) => {
-                self.commands.truncate(count);
+                give_up_past(&mut self.commands, count);
                 Err(refused)
             }
         }
@@ -105,15 +132,22 @@ impl Stage {
 }
 
 // Copies of the commands come last, in room that is there. An `Err` leaves those that were copied until then.
-fn push_copies(list: &mut Vec<Recorded>, commands: &[Recorded]) -> Result<(), AllocError>
-    requires { vec_len list.old + length commands.now ≤ vec_capacity list.old }
+fn push_copies(
+    list: &mut Vec<Recorded>,
+    has_owners: &mut bool,
+    commands: &[Recorded],
+) -> Result<(), AllocError>
+    requires room { vec_len list.old + length commands.now ≤ vec_capacity list.old }
+    requires owners { OwnNothing has_owners.old list.old.items }
     ensures ok { OnOk result (commands_of list.new.items
         ≡ commands_of list.old.items ++ commands_of commands.now) }
     ensures err { OnErr result (take (vec_len list.old) list.new.items ≡ list.old.items) }
+    ensures owners { OwnNothing has_owners.new list.new.items }
 {
     let alloc = *list.allocator();
     for command in commands {
         let copy = command.try_copy(alloc)?;
+        *has_owners |= copy.is_owner();
         list.push_reserved(copy);
     }
     Ok(())

@@ -336,9 +336,10 @@ impl Store {
     }
 
     /// Writes the value of an id that a living entity has, and takes no memory: fields past the id's arity are 0, since tables
-    /// need not keep them. The answer is whether it has the id; where it lacks it nothing is written.
+    /// need not keep them. The answer is whether it has the id; where it lacks it nothing is written. The id's column is looked
+    /// for at the place `near` first, where it is remembered: so many sets of one id in one table look for it once.
     #[inline(always)]
-    pub fn set_value(&mut self, e: Entity, id: Id, value: Value) -> bool
+    pub fn set_value(&mut self, e: Entity, id: Id, value: Value, near: &mut usize) -> bool
         requires alive { IsTrue (is_alive self.old.entities e) }
         requires fits { IsTrue (fits_in_store self.old.entities id value) }
         ensures written { self.new.entities ≡ changed self.old.entities e (record_with_written id value) }
@@ -347,6 +348,6 @@ impl Store {
         let place = self.layout.place_of(e);
         self.layout
             .archetypes
-            .set_value(place.table, place.row, id, value)
+            .set_value(place.table, place.row, id, value, near)
     }
 }

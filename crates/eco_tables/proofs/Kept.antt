@@ -2,7 +2,8 @@
 use Rattle.eco_tables.proofs.Common.{◌≡◌, ℕ, ◌<◌, ◌≤◌, Bool, true, false, if◌then◌else◌, List, map, length, get_or, Option, Some, None}
 use Rattle.eco_tables.proofs.Common.{unwrap_or, MatchOption, refl, subst, sym, ap, ◌∙◌, arith, find, Entity, Id, id_cmp, has_item, ColumnState, kind_of}
 use Rattle.eco_tables.proofs.Common.{TableRow, rows_of, paired, width_among, AreKinds, HasShape}
-use Rattle.eco_tables.proofs.Rows.{ids_of_kinds, no_width, none_read, widthless_in, within_ids}
+use Rattle.eco_tables.proofs.Rows.{ids_of_kinds, no_width, widthless_in, within_ids}
+use Rattle.eco_tables.proofs.Shapes.{none_read}
 use Rattle.eco_tables.proofs.Widths.{width-each}
 
 -- a column keeps fields of its id

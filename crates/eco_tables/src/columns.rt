@@ -68,6 +68,7 @@ fn find_by_halves(columns: &[Column], id: Id) -> Option<usize>
 }
 
 // Where the column of an id is. It is looked for at this place first.
+#[inline(always)]
 fn find_near(columns: &[Column], place: usize, id: Id) -> Option<usize>
     requires { IsTrue (is_ascending id_cmp (map (λ c. c.id) columns.now)) }
     ensures found { IfSome result (λ i. slice_get (map (λ c. c.id) columns.now) i ≡ Some id) }
@@ -91,18 +92,26 @@ pub fn find_value(columns: &[Column], row: usize, id: Id) -> Option<Value>
 }
 
 /// Writes the value of an id in a row. The answer is whether one of the columns has the id; where none has it nothing is
-/// written.
+/// written. The column is looked for at the place `near` first, and where it is found stands there afterwards: so who writes
+/// many values of one id looks for its column once.
 #[inline(always)]
-pub fn write_value(columns: &mut [Column], row: usize, id: Id, value: Value) -> bool
+pub fn write_value(
+    columns: &mut [Column],
+    row: usize,
+    id: Id,
+    value: Value,
+    near: &mut usize,
+) -> bool
     requires ascending { IsTrue (is_ascending id_cmp (map (λ c. c.id) columns.old)) }
     requires row { All (λ c. row < length c.values) columns.old }
     requires fits { All (λ c. c.id ≡ id → Fits c.width value) columns.old }
     ensures written { columns.new ≡ map (λ c. written c row id value) columns.old }
     ensures had { result ≡ has_item id_cmp (map (λ c. c.id) columns.old) id }
 {
-    let Some(place) = find_column(columns, id) else {
+    let Some(place) = find_near(columns, *near, id) else {
         return false;
     };
+    *near = place;
     columns[place].write(row, value);
     true
 }

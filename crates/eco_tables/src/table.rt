@@ -193,16 +193,17 @@ impl Table {
     }
 
     /// Writes that one value, which is no wider than the id's, and takes no memory. The answer is whether the type has the
-    /// id; where it lacks it nothing is written.
+    /// id; where it lacks it nothing is written. The id's column is looked for at the place `near` first, where it is
+    /// remembered.
     #[inline(always)]
-    pub fn set_value(&mut self, row: usize, id: Id, value: Value) -> bool
+    pub fn set_value(&mut self, row: usize, id: Id, value: Value, near: &mut usize) -> bool
         requires row { row < length self.old.rows }
         requires fits { FitsId self.old id value }
         ensures written { self.new ≡ with_written self.old row id value }
         ensures had { result ≡ is_some (find id_cmp id (slice_index_or self.old.rows row no_row).held) }
     {
         // An id without a column has zeros, and gets none but those.
-        write_value(self.columns.as_mut_slice(), row, id, value) || self.type_list.has(id)
+        write_value(self.columns.as_mut_slice(), row, id, value, near) || self.type_list.has(id)
     }
 
     /// Room for more rows. An `Err` keeps all rows and the room that was there.

@@ -243,16 +243,23 @@ impl Tables {
     }
 
     /// Writes the value of an id in a row, and takes no memory. The answer is whether the table's type has the id; where it
-    /// lacks it nothing is written.
+    /// lacks it nothing is written. The id's column is looked for at the place `near` first, where it is remembered.
     #[inline(always)]
-    pub fn set_value(&mut self, slot: TableSlot, row: usize, id: Id, value: Value) -> bool
+    pub fn set_value(
+        &mut self,
+        slot: TableSlot,
+        row: usize,
+        id: Id,
+        value: Value,
+        near: &mut usize,
+    ) -> bool
         requires row { row < length (table_in self.old slot).rows }
         requires fits { FitsId (table_in self.old slot) id value }
         ensures written { SetsSlot self.old self.new slot
             (Some (with_written (table_in self.old slot) row id value)) }
         ensures had { result ≡ is_some (find id_cmp id (row_in self.old slot row).held) }
     {
-        table_mut(&mut self.slots, slot).set_value(row, id, value)
+        table_mut(&mut self.slots, slot).set_value(row, id, value, near)
     }
 
     /// A row for a new entity, with zeros, in room that was reserved.

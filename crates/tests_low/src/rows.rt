@@ -52,7 +52,9 @@ fn moved(alloc: Global, tables: &mut Tables) -> Result<Option<Value>, AllocError
     let to = tables.insert(positioned(alloc)?, &[2])?;
     tables.reserve_rows(from, 1)?;
     tables.push_row(from, FIRST);
-    tables.set_value(from, 0, POSITION, WRITTEN);
+    // No column stands at the place that is told, so the id's is looked for.
+    let mut near = 7;
+    tables.set_value(from, 0, POSITION, WRITTEN, &mut near);
     tables.waive(to);
     tables.shrink(to, 0);
     tables.reserve_more(to, 1)?;

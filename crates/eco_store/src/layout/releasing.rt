@@ -78,8 +78,8 @@ impl Layout {
         }
     }
 
-    // The table in this slot gives half of its room back, unless it is a target, whose room is promised. So a table that rows
-    // leave one by one keeps no more than twice the memory that they use, and the next rows find room.
+    // The table in this slot gives half of its room back, unless it is a target, whose room is promised. So of a table
+    // that rows leave one by one stays promised room for 131,072 rows, or for as many as it has, and the next rows find room.
     #[cold]
     #[inline(never)]
     fn slim(&mut self, slot: TableSlot)

@@ -194,7 +194,7 @@ impl World {
         eco_ids::laws::add_adds_once();
         self.is_lawful();
         self.gain_absent(entity, id)?;
-        self.write(entity, id, *value);
+        self.write(entity, id, *value, &mut 0);
         Ok(())
     }
 
@@ -355,9 +355,9 @@ impl World {
     }
 
     // Where the entity has the id it has this value there from now on, else nothing changes. The answer is whether it has
-    // the id, so that a set looks for it once.
+    // the id, so that a set looks for it once. The id's column is looked for at the place `near` first, where it is remembered.
     #[inline(always)]
-    pub(crate) fn write(&mut self, entity: Entity, id: Id, value: Value) -> bool
+    pub(crate) fn write(&mut self, entity: Entity, id: Id, value: Value, near: &mut usize) -> bool
         requires alive { is_alive self.old entity ≡ true }
         requires fits { IsTrue (fits self.old id value) }
         requires lawful { has self.old entity id ≡ true
@@ -366,6 +366,6 @@ impl World {
         ensures written { MatchBool result
             (self.new ≡ changed self.old entity (with_value id value)) (self.new ≡ self.old) }
     {
-        self.store.set_value(entity, id, value)
+        self.store.set_value(entity, id, value, near)
     }
 }

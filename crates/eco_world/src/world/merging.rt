@@ -52,6 +52,7 @@ impl World {
     fn set_few(
         &mut self,
         known: &mut Option<Settable>,
+        near: &mut usize,
         entity: Entity,
         id: Id,
         fields: &[i64; KEPT_FIELDS],
@@ -64,7 +65,7 @@ impl World {
         ensures known { IfSome known.new (λ s. IsSettable self.new s.id s.arity) }
     {
         eco_stages::laws::commands_are_done_in_turn();
-        if self.rewrite(known, entity, id, Value::of(*fields)) {
+        if self.rewrite(known, entity, id, Value::of(*fields), near) {
             outcomes.push(Ok(()));
             return;
         }
@@ -98,6 +99,7 @@ impl World {
     fn set_next(
         &mut self,
         known: &mut Option<Settable>,
+        near: &mut usize,
         command: &Recorded,
         outcomes: &mut Outcomes,
     ) -> bool
@@ -111,7 +113,7 @@ impl World {
     {
         match command {
             Recorded::Set(entity, id, fields) => {
-                self.set_few(known, *entity, *id, fields, outcomes);
+                self.set_few(known, near, *entity, *id, fields, outcomes);
                 true
             }
             Recorded::SetWide(entity, id, value) => {
@@ -143,7 +145,7 @@ impl World {
             Recorded::Add(entity, id) => self.add(*entity, *id),
             Recorded::Remove(entity, id) => self.remove(*entity, *id),
             Recorded::Set(entity, id, fields) => self.set(*entity, *id, Value::of(*fields)),
-            Recorded::SetWide(entity, id, value) => self.set(*entity, *id, **value),
+            Recorded::SetWide(entity, id, value) => self.set(*entity, *id, ***value),
             Recorded::Clear(entity) => self.clear(*entity),
             Recorded::Rename(entity, name) => self.rename(*entity, name.as_deref()),
             Recorded::Delete(entity) => self.delete(*entity),
@@ -169,9 +171,10 @@ impl MergeTarget for World {
     fn apply_sets(&mut self, commands: &[Recorded], outcomes: &mut Outcomes) -> usize {
         eco_stages::laws::commands_are_done_in_turn();
         let mut known = None;
+        let mut near = 0;
         let mut count = 0;
         while count < commands.len() {
-            if !self.set_next(&mut known, &commands[count], outcomes) {
+            if !self.set_next(&mut known, &mut near, &commands[count], outcomes) {
                 return count;
             }
             count += 1;

@@ -30,7 +30,7 @@ impl World {
         eco_ids::laws::steps_keep_lawful();
         self.is_lawful();
         self.check_set(known, entity, id, value)?;
-        if self.write(entity, id, value) {
+        if self.write(entity, id, value, &mut 0) {
             return Ok(());
         }
         *known = None;
@@ -48,6 +48,7 @@ impl World {
         entity: Entity,
         id: Id,
         value: Value,
+        near: &mut usize,
     ) -> bool
         requires { IfSome known.now (λ s. IsSettable self.old s.id s.arity) }
         ensures met { IsTrue result → Meets (Sets self.old entity id value) (may_set self.old entity id value)
@@ -60,7 +61,7 @@ impl World {
         if !self.may_rewrite(known, entity, id, value) {
             return false;
         }
-        self.write(entity, id, value)
+        self.write(entity, id, value, near)
     }
 
     // Whether this is the id that is known, and nothing stands against the value there.

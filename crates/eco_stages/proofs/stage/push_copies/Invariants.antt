@@ -1,4 +1,5 @@
 use Rattle.eco_stages.proofs.Common.{◌≡◌, ◌+◌, ◌++◌, take, vec_capacity, vec_len, commands_of}
+use Rattle.eco_stages.specs.Recorded.{OwnNothing}
 use Rattle.eco_stages.proofs.stage.push_copies.Given as goal
 
 abbrev pub invariant-loop-command : goal.invariant-loop-command
@@ -7,4 +8,5 @@ invariant-loop-command l = record {
   begun : take (vec_len l.fn.list) l.list.items ≡ l.fn.list.items;
   count : vec_len l.list ≡ vec_len l.fn.list + l.command-index;
   room : vec_capacity l.list ≡ vec_capacity l.fn.list;
+  owners : OwnNothing l.has_owners l.list.items;
 }

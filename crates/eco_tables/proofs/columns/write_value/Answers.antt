@@ -25,8 +25,8 @@ returns-clause-written c =
 pub returns-clause-had : goal.returns-clause-had
 returns-clause-had c = sym (has_place _ _ _ c.in-Some.ensures.found)
 
-pub find_column-requires : goal.find_column-requires
-find_column-requires c = c.requires.ascending
+pub find_near-requires : goal.find_near-requires
+find_near-requires c = c.requires.ascending
 
 pub returns-in_default-clause-had : goal.returns-in_default-clause-had
 returns-in_default-clause-had c = sym c.in_default.ensures.absent

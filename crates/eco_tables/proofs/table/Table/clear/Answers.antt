@@ -1,5 +1,6 @@
 use Rattle.eco_tables.proofs.Common.{◌+◌, ap, sym, ◌∙◌, refl, emptied, rows_of}
-use Rattle.eco_tables.proofs.Rows.{length-rows_of, mapped_table, rewritten, shape_cleared}
+use Rattle.eco_tables.proofs.Rows.{mapped_table, rewritten}
+use Rattle.eco_tables.proofs.Shapes.{length-rows_of, shape_cleared}
 use Rattle.eco_tables.proofs.table.Table.clear.Goals as goal
 
 pub invariant_of-self : goal.invariant_of-self

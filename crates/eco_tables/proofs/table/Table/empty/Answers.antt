@@ -1,5 +1,6 @@
 use Rattle.eco_tables.proofs.Common.{ap, refl, emptied, rows_of}
-use Rattle.eco_tables.proofs.Rows.{mapped_table, rewritten, shape_emptied}
+use Rattle.eco_tables.proofs.Rows.{mapped_table, rewritten}
+use Rattle.eco_tables.proofs.Shapes.{shape_emptied}
 use Rattle.eco_tables.proofs.table.Table.empty.Goals as goal
 
 pub invariant_of-self : goal.invariant_of-self

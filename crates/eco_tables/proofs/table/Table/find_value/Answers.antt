@@ -1,5 +1,6 @@
 use Rattle.eco_tables.proofs.Common.{ap, sym, ◌∙◌, find, id_cmp, held_in}
-use Rattle.eco_tables.proofs.Rows.{ascends, found_read, none_read, row_in_columns, row_within, zeros_read}
+use Rattle.eco_tables.proofs.Rows.{ascends}
+use Rattle.eco_tables.proofs.Shapes.{found_read, none_read, row_in_columns, row_within, zeros_read}
 use Rattle.eco_tables.proofs.table.Table.find_value.Goals as goal
 
 pub find_value-requires-clause-ascending : goal.find_value-requires-clause-ascending

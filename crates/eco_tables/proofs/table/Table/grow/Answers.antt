@@ -1,5 +1,6 @@
 use Rattle.eco_tables.proofs.Common.{◌≤◌, ◌+◌, ◌-◌, arith, ◌∙◌, length, err_says, vec_capacity, table_of}
-use Rattle.eco_tables.proofs.Rows.{refilled_columns, same_table, shape_reserved}
+use Rattle.eco_tables.proofs.Rows.{refilled_columns, same_table}
+use Rattle.eco_tables.proofs.Shapes.{shape_reserved}
 use Rattle.eco_tables.proofs.table.Table.grow.Goals as goal
 
 pub invariant_of-self-in_err-reserve-2 : goal.invariant_of-self-in_err-reserve-2

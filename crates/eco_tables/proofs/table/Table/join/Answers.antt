@@ -1,8 +1,9 @@
 use Rattle.eco_tables.proofs.Common.{◌≡◌, ◌≤◌, ◌++◌, ◌+◌, ◌-◌, List, true, if◌then◌else◌, is_ok, ap, sym, ◌∙◌, arith, refl}
 use Rattle.eco_tables.proofs.Common.{length, map, vec_capacity, length-append, length-map, ColumnState, lengthened, retyped_row, rows_from, rows_of, table_of}
 use Rattle.eco_tables.proofs.Common.{width_among}
-use Rattle.eco_tables.proofs.Rows.{added_rows, ascends, columns_agree, entities_of-rows, joined_columns, kinds_same, length-rows, length-rows_of, same_held}
-use Rattle.eco_tables.proofs.Rows.{same_rows, same_table, shape_joined, shape_reserved, values_held}
+use Rattle.eco_tables.proofs.Rows.{ascends, columns_agree, entities_of-rows, joined_columns, kinds_same, length-rows, same_held, same_rows, same_table}
+use Rattle.eco_tables.proofs.Rows.{values_held}
+use Rattle.eco_tables.proofs.Shapes.{added_rows, length-rows_of, shape_joined, shape_reserved}
 use Rattle.eco_tables.proofs.table.Table.join.Goals as goal
 
 pub join_all-requires-clause-room : goal.join_all-requires-clause-room

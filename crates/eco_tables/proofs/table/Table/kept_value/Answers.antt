@@ -1,7 +1,8 @@
 use Rattle.eco_tables.proofs.Common.{◌<◌, ap, get_or, length, subst, sym, ◌∙◌, Some, zeros, ColumnState}
 use Rattle.eco_tables.proofs.Held.{found_at, place_within}
 use Rattle.eco_tables.proofs.Kept.{unkept}
-use Rattle.eco_tables.proofs.Rows.{ascends, found_read, row_in_columns, row_within}
+use Rattle.eco_tables.proofs.Rows.{ascends}
+use Rattle.eco_tables.proofs.Shapes.{found_read, row_in_columns, row_within}
 use Rattle.eco_tables.proofs.table.Table.kept_value.Goals as goal
 
 pub find_column-requires : goal.find_column-requires

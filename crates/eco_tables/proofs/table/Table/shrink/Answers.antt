@@ -1,5 +1,6 @@
 use Rattle.eco_tables.proofs.Common.{◌≤◌, ◌+◌, arith, ◌∙◌, length, vec_capacity, table_of}
-use Rattle.eco_tables.proofs.Rows.{refilled_columns, same_table, shape_reserved}
+use Rattle.eco_tables.proofs.Rows.{refilled_columns, same_table}
+use Rattle.eco_tables.proofs.Shapes.{shape_reserved}
 use Rattle.eco_tables.proofs.table.Table.shrink.Goals as goal
 
 pub shrink-requires : goal.shrink-requires

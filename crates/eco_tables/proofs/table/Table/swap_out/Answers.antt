@@ -1,6 +1,7 @@
 use Rattle.eco_tables.proofs.Common.{◌≡◌, ◌++◌, ap, sym, ◌∙◌, refl, length, take, drop, swap_remove, with_removed, rows_of, no_row}
 use Rattle.std.specs.List.{slice_get}
-use Rattle.eco_tables.proofs.Rows.{entities_of_all, mapped_table, removed_rows, rewritten, row_in_columns, row_within, shape_removed}
+use Rattle.eco_tables.proofs.Rows.{mapped_table, rewritten}
+use Rattle.eco_tables.proofs.Shapes.{entities_of_all, removed_rows, row_in_columns, row_within, shape_removed}
 use Rattle.eco_tables.proofs.table.Table.swap_out.Goals as goal
 
 pub swap_remove-requires : goal.swap_remove-requires

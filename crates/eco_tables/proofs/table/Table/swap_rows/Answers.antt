@@ -1,6 +1,7 @@
 use Rattle.eco_tables.proofs.Common.{◌≡◌, ◌≤◌, ◌++◌, ◌-◌, ◌∷◌, [], List, eqb-true, ap, sym, ◌∙◌, arith, refl, length, map}
 use Rattle.eco_tables.proofs.Common.{subst, true≢false, kind_of, AreKinds, retyped_row, rows_of}
-use Rattle.eco_tables.proofs.Rows.{changed_table, length-rows_of, taken_rows}
+use Rattle.eco_tables.proofs.Rows.{changed_table, taken_rows}
+use Rattle.eco_tables.proofs.Shapes.{length-rows_of}
 use Rattle.eco_tables.proofs.table.Table.swap_rows.Goals as goal
 
 no_items : {X : Type 0} (xs : List X) → length xs ≡ 0 → xs ≡ []

@@ -1,6 +1,7 @@
 use Rattle.eco_tables.proofs.Common.{◌≡◌, ◌≤◌, ◌+◌, arith, ap, ◌∙◌, length, map, vec_capacity, contents, retyped_row, rows_from}
 use Rattle.eco_tables.proofs.Common.{width_among}
-use Rattle.eco_tables.proofs.Rows.{shape_reserved, contents_kinds, contents_rows}
+use Rattle.eco_tables.proofs.Rows.{contents_kinds, contents_rows}
+use Rattle.eco_tables.proofs.Shapes.{shape_reserved}
 use Rattle.eco_tables.proofs.table.Table.try_copy.Goals as goal
 
 pub invariant_of-result : goal.invariant_of-result

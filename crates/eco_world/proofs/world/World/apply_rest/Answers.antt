@@ -1,4 +1,4 @@
-use Rattle.eco_world.proofs.Common.{◌≡◌, Result, subst}
+use Rattle.eco_world.proofs.Common.{◌≡◌, ◌∙◌, Result, ap, subst}
 use Rattle.eco_ids.specs.declared.entity.Entity.{Entity}
 use Rattle.eco_ids.specs.declared.id.Id.{Id}
 use Rattle.eco_ids.specs.declared.refusal.Refusal.{Refusal}
@@ -28,7 +28,8 @@ pub returns-in-SetWide : goal.returns-in-SetWide
 returns-in-SetWide c =
     let set = c.set-in-SetWide in
     rw c.in-SetWide.is
-    (set_same c.args.self.now set.new.self c.in-SetWide.entity c.in-SetWide.id set.result _ _ c.deref.ensures set.ensures)
+    (set_same c.args.self.now set.new.self c.in-SetWide.entity c.in-SetWide.id set.result _ _
+    (c.deref-in-SetWide.ensures ∙ ap (λ b. b.value) c.deref.ensures) set.ensures)
 
 pub returns-in-Rename : goal.returns-in-Rename
-returns-in-Rename c = rw (c.in-Rename.is, ← c.as_deref.ensures.value) c.rename.ensures
+returns-in-Rename c = rw (c.in-Rename.is, ← c.deref-in-Rename.ensures, ← c.as_deref.ensures.value) c.rename.ensures

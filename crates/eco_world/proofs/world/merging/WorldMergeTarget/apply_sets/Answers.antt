@@ -11,7 +11,15 @@ set_next-requires-clause-room c =
     let cs = c.args.commands.now in
     let was = c.loop-count.invariant.are_done in
     let more = laws.counted c.args.self.now c.loop-count.self (commands_of (take i cs)) c.args.outcomes.now c.loop-count.outcomes was in
-    omega (arith, more, was.room, length-map (take i cs) recorded_command, length-take-le i cs c.loop-count.invariant.within, c.loop-count-test.true, c.requires)
+    omega (
+      arith,
+      more,
+      was.room,
+      length-map (take i cs) recorded_command,
+      length-take-le i cs c.loop-count.invariant.within,
+      c.loop-count-test.true,
+      c.requires,
+    )
 
 pub loop-count-preserved : goal.loop-count-preserved
 loop-count-preserved c =

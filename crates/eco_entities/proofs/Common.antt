@@ -27,23 +27,21 @@ pub use Rattle.std.specs.Ordering.{eq_by_cmp, is_eq, is_lt, nat_cmp, ordering_th
 pub use Rattle.std.specs.Prelude.{MatchResult, OnErr, OnOk, String, T, string_bytes}
 pub use Rattle.std.specs.Str.{bytes_eq}
 pub use Rattle.std.specs.declared.cmp.Ordering.TheVariants.{Equal, Greater, Less}
+pub use Rattle.eco_entities.specs.Cells.{BucketState, IsAt, IsFullAt, IsIn, HasMark, HasMarkAt, KeepsAll, bucket_of, cell_to, cells_for, mark_of, tag_of}
 pub use Rattle.eco_entities.specs.Changes.{ChangesAt, KeepsAnswers}
-pub use Rattle.eco_entities.specs.Keys.{AllPoint, Gathers, IsCellOf, IsCellless, IsTable, BucketState, Points, borne_by, bucket_of, found_among, found_by}
-pub use Rattle.eco_entities.specs.Keys.{found_in, found_in_turn, found_spilled, hash_of, is_key_of, key_cmp, tag_of, text_cmp}
 pub use Rattle.eco_entities.specs.Label.{label_text}
 pub use Rattle.eco_entities.specs.Labels.{label_of}
+pub use Rattle.eco_entities.specs.Listed.{IsListed}
 pub use Rattle.eco_entities.specs.Needs.{NeedsNeverGrow, need_in, need_of}
 pub use Rattle.eco_entities.specs.Pages.{IsEntry, IsGap, SameTexts, name_at, text_at}
 pub use Rattle.eco_entities.specs.Registration.{Registration, entity_at, entity_in, given_name, newcomer, own_arity, own_place, placed, renamed}
-pub use Rattle.eco_entities.specs.Registry.{Claims, IsBorne, IsFree, IsRegistry, entity_of, short_entity_of}
+pub use Rattle.eco_entities.specs.Registry.{HasNobody, IsBorne, IsRegistry, IsUnused}
 pub use Rattle.eco_entities.specs.Runs.{Admit, Call, Create, Kill, LeadsTo, MakeAlive, NobodyLivesTwice, Rename, RunsTo, SetPlace}
 pub use Rattle.eco_entities.specs.Slots.{GenerationFits, IsMarked, IsNextSlot, arity_in, is_free, is_living, is_named, living_in, living_slot}
 pub use Rattle.eco_entities.specs.Slots.{next_generation}
 pub use Rattle.eco_entities.specs.Slots.{place_in, put_at, registration_of, state_at, state_of, states}
 pub use Rattle.eco_entities.specs.Words.{FillsBits, IsFirstWord, IsLowestBit, Summarizes, range_mask, with_bit, without_bit}
-pub use Rattle.eco_entities.specs.declared.bucket.Bearer.{Bearer}
-pub use Rattle.eco_entities.specs.declared.bucket.Cell.{Cell}
-pub use Rattle.eco_entities.specs.declared.key.Key.{Key}
+pub use Rattle.eco_entities.specs.declared.cell.Cell.{Cell}
 pub use Rattle.eco_entities.specs.declared.label.Label.{Label}
 pub use Rattle.eco_entities.specs.declared.place.Place.{Place}
 pub use Rattle.eco_entities.specs.declared.slot.Slot.{Slot}

@@ -19,5 +19,6 @@ pub mod Seats
 pub mod PageChanges
 pub mod PageLists
 pub mod PageNames
-pub mod Cells
-pub mod Tables
+pub mod Listed
+pub mod Picked
+pub mod Listings

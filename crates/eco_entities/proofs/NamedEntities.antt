@@ -3,7 +3,8 @@ use Rattle.eco_entities.proofs.Common.{common_steps, ◌≡◌, ℕ, zero, suc, 
 use Rattle.eco_entities.proofs.Common.{slice_get, refl, sym, ap, ◌∙◌, Option, Some, None, MatchOption, option_map, option_and_then, arith, cases_eq}
 use Rattle.eco_entities.proofs.Common.{false≢true, ne_eqb, is_eq-slice_cmp, none-some, same_Some, bytes_eq-Decides, Entity, Indexed, IndexState, Retired}
 use Rattle.eco_entities.proofs.Common.{Free, Living, record_in, record_of, living_from, is_text, is_called, named_entity, own_name, Registration, given_name}
-use Rattle.eco_entities.proofs.Common.{IsRegistry, record_here}
+use Rattle.eco_entities.proofs.Common.{HasNobody, IsBorne, IsRegistry, IsUnused, is_some, record_here}
+use Rattle.std.proofs.Common.{IfNone, IfSome}
 use Rattle.std.proofs.Common.{find}
 
 -- `is_text` is equality
@@ -68,24 +69,57 @@ unnamed : {name : List ℕ} (o : Option Registration) → option_and_then given_
 unnamed {name} None h none = none-some name h
 unnamed {name} (Some r) h none = false≢true (sym (none r refl) ∙ (ap (is_called name) h ∙ text_refl name))
 
--- in a registry, what is found under a name is the entity that has it
-registry_finds : (found : List ℕ → Option Entity) (w : Indexed Registration) (name : List ℕ) (o : Option (Entity × Registration)) →
-    IsRegistry found (own_name given_name w) → Found 0 w.indices name o → (f : Option Entity) → f ≡ found name → f ≡ option_map (λ p. p.0) o
-registry_finds found w name None r none None e = refl
-registry_finds found w name None r none (Some x) e =
-    let lived : own_name given_name w x ≡ Some name = r.lives name x (sym e) in
-    absurd (unnamed (record_of w x) lived (none x.index x.generation))
-registry_finds found w name (Some q) r has f e =
+-- who is found under a name, where exactly who has the name is found, is who the search among the living finds
+abbrev pub FindsExactly : Indexed Registration → List ℕ → Option Entity → Type 0
+FindsExactly w name f = ((e : Entity) → f ≡ Some e → own_name given_name w e ≡ Some name)
+    × ((e : Entity) → own_name given_name w e ≡ Some name → f ≡ Some e)
+
+finds_exactly : (w : Indexed Registration) (name : List ℕ) (o : Option (Entity × Registration)) (f g : Option Entity) → FindsExactly w name f
+    → Found 0 w.indices name o → g ≡ f → g ≡ option_map (λ p. p.0) o
+finds_exactly w name None f None exact none is = refl
+finds_exactly w name None f (Some x) exact none is =
+    absurd (unnamed (record_of w x) (exact.0 x (sym is)) (none x.index x.generation))
+finds_exactly w name (Some q) f g exact has is =
     let place : q.0.index - 0 ≡ q.0.index = omega arith in
     let kept : record_of w q.0 ≡ Some q.1 = rw place at has.1 in
     let named : own_name given_name w q.0 ≡ Some name = ap (option_and_then given_name) kept ∙ called_same name (given_name q.1) has.2 in
-    e ∙ r.listed name q.0 named
+    is ∙ exact.1 q.0 named
 
-pub registry_named_entity : (found : List ℕ → Option Entity) (w : Indexed Registration) (name : List ℕ) → IsRegistry found (own_name given_name w) →
-    found name ≡ named_entity given_name w name
-registry_named_entity found w name r = registry_finds found w name _ r (found_from 0 w.indices name) (found name) refl
+pub finds_named_entity : (w : Indexed Registration) (name : List ℕ) (f : Option Entity) → FindsExactly w name f → f ≡ named_entity given_name w name
+finds_named_entity w name f exact = finds_exactly w name _ f f exact (found_from 0 w.indices name) refl
+
+-- what is found in a registry: one who has the name, or nobody among all who are listed
+pub registry_finds : (listed : List ℕ → Entity → Type 0) (w : Indexed Registration) (name : List ℕ) (f : Option Entity)
+    → IsRegistry listed (own_name given_name w) → IfSome f (λ e. own_name given_name w e ≡ Some name)
+    → IfNone f (HasNobody (own_name given_name w) name (listed name)) → FindsExactly w name f
+registry_finds listed w name None r some none = (λ e h. absurd (none-some e h), λ e own. absurd (none e own (r.listed_so name e own)))
+registry_finds listed w name (Some x) r some none =
+    (λ e h. ap (own_name given_name w) (sym (same_Some x e h)) ∙ some, λ e own. ap Some (r.unique x e name some own))
+
+pub registry_named_entity : (listed : List ℕ → Entity → Type 0) (w : Indexed Registration) (name : List ℕ) (f : Option Entity)
+    → IsRegistry listed (own_name given_name w) → IfSome f (λ e. own_name given_name w e ≡ Some name)
+    → IfNone f (HasNobody (own_name given_name w) name (listed name)) → f ≡ named_entity given_name w name
+registry_named_entity listed w name f r some none = finds_named_entity w name f (registry_finds listed w name f r some none)
+
+-- a name that nobody has
+pub unused_name : (w : Indexed Registration) (name : List ℕ) → IsUnused (own_name given_name w) name → named_entity given_name w name ≡ None
+unused_name w name unused = sym (finds_named_entity w name None (λ e h. absurd (none-some e h), λ e own. absurd (unused e own)))
+
+-- one that somebody has
+pub borne_name : (listed : List ℕ → Entity → Type 0) (w : Indexed Registration) (name : List ℕ) → IsRegistry listed (own_name given_name w)
+    → IsBorne (own_name given_name w) name → is_some (named_entity given_name w name) ≡ true
+borne_name listed w name r (x, own) =
+    sym (ap is_some (finds_named_entity w name (Some x) (
+      λ e h. ap (own_name given_name w) (sym (same_Some x e h)) ∙ own,
+      λ e theirs. ap Some (r.unique x e name own theirs),
+    )))
 
 -- in an index that is shown
-pub registry_shown : (found : List ℕ → Option Entity) (v w : Indexed Registration) (name : List ℕ) → IsRegistry found (own_name given_name v)
-    → v ≡ w → found name ≡ named_entity given_name w name
-registry_shown found v w name r shown = registry_named_entity found v name r ∙ ap (λ (x : Indexed Registration). named_entity given_name x name) shown
+module _ (v w : Indexed Registration) (name : List ℕ) (shown : v ≡ w) where
+  pub unused_shown : IsUnused (own_name given_name v) name → named_entity given_name w name ≡ None
+  unused_shown unused = sym (ap (λ (x : Indexed Registration). named_entity given_name x name) shown) ∙ unused_name v name unused
+
+  pub borne_shown : (listed : List ℕ → Entity → Type 0) → IsRegistry listed (own_name given_name v) → IsBorne (own_name given_name v) name
+      → is_some (named_entity given_name w name) ≡ true
+  borne_shown listed r borne =
+      sym (ap (λ (x : Indexed Registration). is_some (named_entity given_name x name)) shown) ∙ borne_name listed v name r borne

@@ -6,7 +6,8 @@ use Rattle.eco_entities.proofs.Common.{with_death, with_new, next_entity, change
 use Rattle.eco_entities.proofs.Common.{ChangesAt, KeepsAnswers, IsRegistry, slice_get-set_same, record_here, record_at}
 use Rattle.std.proofs.lemmas.List.{set-set}
 use Rattle.eco_entities.proofs.Registers.{cases_entity, registry_same, registry_nameless}
-use Rattle.eco_entities.proofs.States.{alive_known}
+use Rattle.eco_entities.proofs.Common.{◌≢◌, sym, none-some, same_Some, IndexState, Free, Retired}
+use Rattle.eco_entities.proofs.States.{alive_known, next_is}
 use Rattle.eco_entities.proofs.Kept.{record-new, record_of_next, record-settled, record_of_free, record-died, record-replaced, record-admitted}
 
 -- where what is kept changes at one entity, so do the names
@@ -80,25 +81,64 @@ pub death_of_renamed : (w : Indexed Registration) (e : Entity) (change : Registr
     with_death (changed w e change) e ≡ with_death w e
 death_of_renamed w e change alive = grind (arith, common_steps, alive_known, record_at, set-set)
 
-module _ {found : List ℕ → Option Entity} where
+module _ {listed : List ℕ → Entity → Type 0} where
   -- a call that makes an entity alive keeps the registry
-  pub registry_made_alive : (w new : Indexed Registration) (e : Entity) (r : Result (Unit {0}) Refusal) → IsRegistry found (own_name given_name w) →
-      MakesAliveWith w e (newcomer None None) r new → IsRegistry found (own_name given_name new)
+  pub registry_made_alive : (w new : Indexed Registration) (e : Entity) (r : Result (Unit {0}) Refusal) → IsRegistry listed (own_name given_name w) →
+      MakesAliveWith w e (newcomer None None) r new → IsRegistry listed (own_name given_name new)
   registry_made_alive w new e r g h =
       elim (cases_Bool (is_free_at w e)) [
         | inl free ↦
             let done : (r ≡ Ok tt) × (new ≡ with_record w e (newcomer None None)) = MatchBool-at_true _ _ free h in
-            rw done.1 (registry_nameless e g (own_of_free w e free) (record { all = λ k. refl }) (own-settled w e None None free))
+            rw done.1 (registry_nameless e g (own-settled w e None None free))
         | inr other ↦
             let refused : (r ≡ Err Taken) × (new ≡ w) = MatchBool-at_false _ _ other h in
             rw refused.1 g
       ]
 
   -- a call that admits keeps the registry
-  pub registry_admitted : (w new : Indexed Registration) (n : ℕ) (may : Bool) (r : Result (Unit {0}) Refusal) → IsRegistry found (own_name given_name w) →
-      Meets (Admits w n) may w r new → IsRegistry found (own_name given_name new)
+  pub registry_admitted : (w new : Indexed Registration) (n : ℕ) (may : Bool) (r : Result (Unit {0}) Refusal) → IsRegistry listed (own_name given_name w) →
+      Meets (Admits w n) may w r new → IsRegistry listed (own_name given_name new)
   registry_admitted w new n may r g h = grind (arith, common_steps, cases_Bool, registry_same, names_stay, record-admitted)
 
 pub alive_changed : (w : Indexed Registration) (e : Entity) (change : Registration → Registration) → is_alive w e ≡ true →
     is_alive (changed w e change) e ≡ true
 alive_changed w e change alive = grind (arith, common_steps, alive_known, record_at, slice_get-set_same, slice_get_within, record_here)
+
+-- ---- at one index lives one
+
+-- who has a name lives
+pub named_alive : (w : Indexed Registration) (e : Entity) (name : List ℕ) → own_name given_name w e ≡ Some name → is_alive w e ≡ true
+named_alive w e name h = by (record_of w e) h
+  where
+    by : (o : Option Registration) → option_and_then given_name o ≡ Some name → is_some o ≡ true
+    by None h = absurd (none-some name h)
+    by (Some r) h = refl
+
+abbrev generation_in : Option (IndexState Registration) → ℕ
+generation_in (Some (Living g r)) = g
+generation_in (Some (Free g)) = 0
+generation_in (Some Retired) = 0
+generation_in None = 0
+
+pub one_alive : (w : Indexed Registration) (a b : Entity) → is_alive w a ≡ true → is_alive w b ≡ true → a.index ≡ b.index → a ≡ b
+one_alive w a b alive_a alive_b same =
+    let known_a = (alive_known w a alive_a).1 in
+    let known_b = (alive_known w b alive_b).1 in
+    let generation : a.generation ≡ b.generation = ap generation_in (sym known_a ∙ (ap (slice_get w.indices) same ∙ known_b)) in
+    ap (λ i. record { index = i; generation = a.generation }) same ∙ ap (λ g. record { index = b.index; generation = g }) generation
+
+-- another who has a name is at another index
+pub apart_from : (w : Indexed Registration) (e x : Entity) (name : List ℕ) → is_alive w e ≡ true → x ≢ e → own_name given_name w x ≡ Some name
+    → x.index ≢ e.index
+apart_from w e x name alive apart own same = apart (one_alive w x e (named_alive w x name own) alive same)
+
+-- and so is whoever has a name, where an entity comes to live
+pub apart_from_next : (w : Indexed Registration) (e x : Entity) (name : List ℕ) → next_entity w ≡ Some e → own_name given_name w x ≡ Some name
+    → x.index ≢ e.index
+apart_from_next w e x name next own same =
+    let known = (alive_known w x (named_alive w x name own)).1 in
+    let there = sym (ap (slice_get w.indices) same) ∙ known in
+    elim (next_is w e next) [
+      | inl free ↦ grind (arith, common_steps, same_Some)
+      | inr fresh ↦ grind (arith, common_steps, slice_get_within)
+    ]

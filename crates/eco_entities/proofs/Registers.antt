@@ -1,7 +1,8 @@
 -- The registry of names after each change.
 use Rattle.eco_entities.proofs.Common.{common_steps, ◌≡◌, ◌≢◌, ℕ, true, List, sym, ap, ◌∙◌, Option, Some, None, ◌⊎◌, inl, inr, arith}
 use Rattle.eco_entities.proofs.Common.{cases_eq, cases_Bool, false≢true, none-some, same_Some, bytes_eq-Decides, bytes_eq, Entity, is_name, ChangesAt}
-use Rattle.eco_entities.proofs.Common.{KeepsAnswers, IsRegistry}
+use Rattle.eco_entities.proofs.Common.{KeepsAnswers, IsRegistry, subst}
+use Rattle.eco_ids.specs.Names.{is_proper}
 
 -- two texts are equal or not
 pub cases_text : (xs ys : List ℕ) → (xs ≡ ys) ⊎ (xs ≢ ys)
@@ -15,70 +16,65 @@ cases_text xs ys =
 pub cases_entity : (a b : Entity) → (a ≡ b) ⊎ (a ≢ b)
 cases_entity a b = grind (arith, common_steps, cases_eq)
 
-module _ {found found' : List ℕ → Option Entity} {own own' : Entity → Option (List ℕ)} where
-  -- nothing that it is about has changed
-  pub registry_same : IsRegistry found own → KeepsAnswers found found' → KeepsAnswers own own' → IsRegistry found' own'
-  registry_same r f o = grind (arith, common_steps)
+abbrev Listing : Type 1
+Listing = List ℕ → Entity → Type 0
 
-  -- an entity without name gets one that nobody has
-  pub registry_gain : (name : List ℕ) (e : Entity) → IsRegistry found own → own e ≡ None → found name ≡ None → is_name name ≡ true →
-      ChangesAt found found' name (Some e) → ChangesAt own own' e (Some name) → IsRegistry found' own'
-  registry_gain name e r nameless free good f o = record {
-    lives = λ n x h. elim (cases_text n name) [
+module _ {listed listed' : Listing} {own own' : Entity → Option (List ℕ)} where
+  -- nothing that it is about has changed
+  pub registry_same : IsRegistry listed own → ((name : List ℕ) (e : Entity) → own e ≡ Some name → listed name e → listed' name e)
+      → KeepsAnswers own own' → IsRegistry listed' own'
+  registry_same r keeps o = record {
+    listed_so = λ name e h. let was : own e ≡ Some name = sym (o.all e) ∙ h in keeps name e was (r.listed_so name e was);
+    unique = λ a b name ha hb. r.unique a b name (sym (o.all a) ∙ ha) (sym (o.all b) ∙ hb);
+    proper = λ e. ap is_proper (o.all e) ∙ r.proper e;
+  }
+
+  -- an entity gets a name that nobody has, in place of its own or of none
+  pub registry_gain : (name : List ℕ) (e : Entity) → IsRegistry listed own → ((x : Entity) → own x ≡ Some name → ⊥) → is_name name ≡ true
+      → listed' name e → ((n : List ℕ) (x : Entity) → x ≢ e → n ≢ name → own x ≡ Some n → listed n x → listed' n x)
+      → ChangesAt own own' e (Some name) → IsRegistry listed' own'
+  registry_gain name e r free good here keeps o = record {
+    listed_so = λ n x h. elim (cases_entity x e) [
       | inl same ↦
-          let named_entity : x ≡ e = same_Some x e (sym h ∙ (ap found' same ∙ f.here)) in
-          ap own' named_entity ∙ (o.here ∙ ap Some (sym same))
-      | inr apart ↦
-          let lived : own x ≡ Some n = r.lives n x (sym (f.others n apart) ∙ h) in
-          o.others x (λ is. none-some n (sym nameless ∙ (ap own (sym is) ∙ lived))) ∙ lived
+          let called : name ≡ n = same_Some name n (sym o.here ∙ (ap own' (sym same) ∙ h)) in
+          subst (λ m. listed' m x) called (subst (listed' name) (sym same) here)
+      | inr other ↦
+          let was : own x ≡ Some n = sym (o.others x other) ∙ h in
+          keeps n x other (λ is. free x (was ∙ ap Some is)) was (r.listed_so n x was)
     ];
-    listed = λ n x h. grind (arith, common_steps, cases_entity, same_Some, none-some);
+    unique = λ a b n ha hb. elim (cases_entity a e) [
+      | inl a_is ↦ elim (cases_entity b e) [
+        | inl b_is ↦ a_is ∙ sym b_is
+        | inr b_else ↦
+            let called : name ≡ n = same_Some name n (sym o.here ∙ (ap own' (sym a_is) ∙ ha)) in
+            absurd (free b (sym (o.others b b_else) ∙ (hb ∙ ap Some (sym called))))
+      ]
+      | inr a_else ↦ elim (cases_entity b e) [
+        | inl b_is ↦
+            let called : name ≡ n = same_Some name n (sym o.here ∙ (ap own' (sym b_is) ∙ hb)) in
+            absurd (free a (sym (o.others a a_else) ∙ (ha ∙ ap Some (sym called))))
+        | inr b_else ↦ r.unique a b n (sym (o.others a a_else) ∙ ha) (sym (o.others b b_else) ∙ hb)
+      ]
+    ];
     proper = λ x. grind (arith, common_steps, cases_entity);
   }
 
-  -- an entity loses its name
-  pub registry_lose : (name : List ℕ) (e : Entity) → IsRegistry found own → own e ≡ Some name → ChangesAt found found' name None →
-      ChangesAt own own' e None → IsRegistry found' own'
-  registry_lose name e r named f o = grind (arith, common_steps, cases_text, none-some, same_Some, cases_entity)
+  -- an entity has no name from now on
+  pub registry_lose : (e : Entity) → IsRegistry listed own → ((n : List ℕ) (x : Entity) → x ≢ e → own x ≡ Some n → listed n x → listed' n x)
+      → ChangesAt own own' e None → IsRegistry listed' own'
+  registry_lose e r keeps o = record {
+    listed_so = λ n x h.
+        let other : x ≢ e = λ is. none-some n (sym o.here ∙ (ap own' (sym is) ∙ h)) in
+        let was : own x ≡ Some n = sym (o.others x other) ∙ h in
+        keeps n x other was (r.listed_so n x was);
+    unique = λ a b n ha hb.
+        let a_else : a ≢ e = λ is. none-some n (sym o.here ∙ (ap own' (sym is) ∙ ha)) in
+        let b_else : b ≢ e = λ is. none-some n (sym o.here ∙ (ap own' (sym is) ∙ hb)) in
+        r.unique a b n (sym (o.others a a_else) ∙ ha) (sym (o.others b b_else) ∙ hb);
+    proper = λ x. grind (arith, common_steps, cases_entity);
+  }
 
-  -- an entity without name still has none
-  pub registry_nameless : (e : Entity) → IsRegistry found own → own e ≡ None → KeepsAnswers found found' → ChangesAt own own' e None
-      → IsRegistry found' own'
-  registry_nameless e r nameless f o = grind (arith, common_steps, registry_same, cases_entity)
-
--- a name that was given and taken back
-pub keeps_undone : {found found' found'' : List ℕ → Option Entity} (name : List ℕ) (e : Entity)
-    → found name ≡ None → ChangesAt found found' name (Some e) → ChangesAt found' found'' name None → KeepsAnswers found found''
-keeps_undone {found} {found'} {found''} name e free f g = grind (arith, common_steps, cases_text)
-
--- an entity gets another name, and then the old one is free
-pub registry_exchange : {found found' found'' : List ℕ → Option Entity} {own own' : Entity → Option (List ℕ)} (old name : List ℕ) (e : Entity)
-    → IsRegistry found own → own e ≡ Some old → found name ≡ None → is_name name ≡ true
-    → ChangesAt found found' name (Some e) → ChangesAt found' found'' old None → ChangesAt own own' e (Some name) → IsRegistry found'' own'
-registry_exchange {found} {found'} {found''} {own} {own'} old name e r named free good f g o =
-    let held : found old ≡ Some e = r.listed old e named in
-    let differ : name ≢ old = λ is. none-some e (sym free ∙ (ap found is ∙ held)) in
-    record {
-      lives = λ n x h. elim (cases_text n old) [
-        | inl same ↦ absurd (none-some x (sym g.here ∙ (ap found'' (sym same) ∙ h)))
-        | inr kept ↦ elim (cases_text n name) [
-          | inl new ↦
-              let named_entity : x ≡ e = same_Some x e (sym h ∙ (g.others n kept ∙ (ap found' new ∙ f.here))) in
-              ap own' named_entity ∙ (o.here ∙ ap Some (sym new))
-          | inr apart ↦
-              let lived : own x ≡ Some n = r.lives n x (sym (f.others n apart) ∙ (sym (g.others n kept) ∙ h)) in
-              o.others x (λ is. kept (same_Some n old (sym lived ∙ (ap own is ∙ named)))) ∙ lived
-        ]
-      ];
-      listed = λ n x h. elim (cases_entity x e) [
-        | inl same ↦
-            let called : n ≡ name = same_Some n name (sym h ∙ (ap own' same ∙ o.here)) in
-            ap found'' called ∙ (g.others name differ ∙ (f.here ∙ ap Some (sym same)))
-        | inr other ↦
-            let was : found n ≡ Some x = r.listed n x (sym (o.others x other) ∙ h) in
-            let kept : n ≢ old = λ is. other (same_Some x e (sym was ∙ (ap found is ∙ held))) in
-            let apart : n ≢ name = λ is. none-some x (sym free ∙ (ap found (sym is) ∙ was)) in
-            g.others n kept ∙ (f.others n apart ∙ was)
-      ];
-      proper = λ x. grind (arith, common_steps, cases_entity);
-    }
+-- an entity without name still has none
+pub registry_nameless : {listed : Listing} {own own' : Entity → Option (List ℕ)} (e : Entity) → IsRegistry listed own → ChangesAt own own' e None
+    → IsRegistry listed own'
+registry_nameless e r o = registry_lose e r (λ n x apart own at. at) o

@@ -1,8 +1,9 @@
+pub mod Cells
 pub mod Changes
 pub mod FreeBits
-pub mod Keys
 pub mod Label
 pub mod Labels
+pub mod Listed
 pub mod Needs
 pub mod Pages
 pub mod Registration

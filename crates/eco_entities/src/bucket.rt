@@ -1,56 +1,51 @@
-//! One bucket of the table of short names.
-ghost use Rattle.std.specs.Prelude.{◌≡◌, ◌<◌, ◌-◌, ◌∷◌, ◌++◌, ℕ, List, [], All, true, false, not, IsTrue, Some, None};
-ghost use Rattle.std.specs.Prelude.{is_some, OnOk, OnErr, IfOk, MatchOption};
-ghost use Rattle.std.specs.Prelude.{slice_get, option_map};
-ghost use Rattle.std.specs.Int.Bits.{bit_and};
-ghost use Rattle.std.specs.Ordering.{is_eq};
-ghost use Rattle.eco_entities.specs.Changes.{ChangesAt, KeepsAnswers};
-ghost use Rattle.eco_entities.specs.Keys.{borne_by, found_by, found_in, found_spilled, is_key_of, key_cmp, AllPoint, Gathers, IsCellless};
-ghost use Rattle.eco_entities.specs.Keys.{IsCellOf, Points};
+//! One bucket of the table of names.
+ghost use Rattle.std.specs.Prelude.{◌≡◌, ◌≢◌, ℕ, ◌<◌, ◌≤◌, ◌∷◌, ◌++◌, [], false, nat_lt, length, slice_get, Some, IfSome, IfNone, IsFalse, IsTrue, MatchBool};
+ghost use Rattle.std.specs.Prelude.{MatchOption};
+ghost use Rattle.eco_ids.specs.Renaming.{own_name};
+ghost use Rattle.eco_entities.specs.Cells.{cell_to, cells_for, mark_of, IsIn, HasMark};
+ghost use Rattle.eco_entities.specs.Registry.{HasNobody};
+ghost use Rattle.eco_entities.specs.Registration.{given_name};
+ghost use Rattle.eco_entities.specs.declared.cell.Cell.{Cell};
 
-use crate::key::Key;
+use crate::cell::Cell;
+use crate::slots::Slots;
+use crate::tag::bucket_of;
 use arrayvec::ArrayVec;
 use eco_ids::Entity;
-use std::alloc::{AllocError, Global};
-use std::collections::BTreeMap;
+use std::alloc::AllocError;
 use std::marker::Model;
 
-/// A short name, and the entity that bears it.
-#[derive(Clone, Copy, Drop)]
-pub(crate) struct Bearer {
-    pub(crate) key: Key,
-    pub(crate) entity: Entity,
-}
-
-/// Where a bearer stands among all, and the lower half of its name's hash, by which most others are told apart from it.
-#[derive(Clone, Copy, Default, Drop)]
-pub(crate) struct Cell {
-    pub(crate) tag: u32,
-    pub(crate) place: u32,
-}
-
-/// Most names of a bucket have a cell. Those that find all cells taken are in a tree: so names whose hashes are equal by choice
-/// make no look-up slow. A contract sees the cells, and the names in the tree.
+/// Most names have a cell in the bucket that they pick. Those that find it full are in a tree, and the bucket says so by a mark at
+/// one of eight places, which the tag picks: so few look-ups of other names go to the tree.
 pub(crate) struct Bucket {
     cells: ArrayVec<Cell, 8>,
-    spilled: BTreeMap<Key, Entity>,
+    marks: [bool; MARKS],
+}
+
+// How many marks a bucket has.
+const MARKS: usize = 8;
+
+// The mark that a tag picks.
+#[inline]
+fn mark_of(tag: u32) -> usize
+    ensures value { result ≡ mark_of tag }
+    ensures within { result < 8 }
+{
+    tag as usize % MARKS
 }
 
 impl Model for Bucket {
-    ghost use Rattle.eco_entities.specs.Keys.{BucketState};
+    ghost use Rattle.eco_entities.specs.Cells.{BucketState};
 
     ghost Value = { BucketState };
 
-    ghost view = { λ b. (b.cells.items, b.spilled.entries) };
+    ghost view = { λ b. (b.cells.items, b.marks) };
 }
 
 // By hand, so that dropping it is one call: a derived drop is proved anew at each early return of whoever holds it.
 impl Drop for Bucket {
     fn drop(self) {
-        let Bucket {
-            cells: _,
-            spilled: _,
-        } = self;
+        let Bucket { cells: _, marks: _ } = self;
     }
 }
 
@@ -60,205 +55,109 @@ impl Clone for Bucket {
     fn clone(&self) -> Result<Bucket, AllocError> {
         Ok(Bucket {
             cells: self.cells.clone()?,
-            spilled: self.spilled.clone()?,
+            marks: self.marks,
         })
-    }
-}
-
-impl Cell {
-    /// The bucket that the cell is in, of so many.
-    #[inline]
-    pub(crate) fn bucket(&self, count: usize) -> usize
-        requires { 0 < count }
-        ensures value { result ≡ bit_and self.now.tag (count - 1) }
-        ensures within { result < count }
-    {
-        self.tag as usize & (count - 1)
     }
 }
 
 impl Bucket {
     /// No name is in use.
-    pub(crate) fn new(alloc: Global) -> Bucket
-        ensures { result ≡ ([], []) }
+    pub(crate) fn new() -> Bucket
+        ensures { result.0 ≡ [] }
     {
         Bucket {
             cells: ArrayVec::new(),
-            spilled: BTreeMap::new(alloc),
+            marks: [false; MARKS],
         }
     }
 
-    /// The cells.
-    pub(crate) fn cells(&self) -> &[Cell]
-        ensures { result.now ≡ self.now.0 }
-    {
-        self.cells.as_slice()
-    }
-
-    /// The names that found no cell, and who bears them.
-    pub(crate) fn spilled(&self) -> &BTreeMap<Key, Entity>
-        ensures { result.now.entries ≡ self.now.1 }
-    {
-        &self.spilled
-    }
-
-    /// Who bears the name.
+    /// Whether a name of this tag may be in the tree.
     #[inline]
-    pub(crate) fn get(&self, bearers: &[Bearer], key: &Key) -> Option<Entity>
-        requires { AllPoint bearers.now self.now }
-        ensures { (text : List ℕ) → is_key_of text key.now ≡ true
-            → result ≡ found_in bearers.now self.now text }
+    pub(crate) fn is_marked(&self, tag: u32) -> bool
+        ensures marked { IsTrue result → HasMark self.now tag }
+        ensures clear { IsFalse result → HasMark self.now tag → ⊥ }
     {
-        match cell_of(self.cells.as_slice(), bearers, key) {
-            Some(cell) => Some(bearers[self.cells.as_slice()[cell].place as usize].entity),
-            None => self.get_spilled(key),
-        }
+        self.marks[mark_of(tag)]
     }
 
-    // Who bears it in the tree, which is mostly empty.
-    #[inline]
-    fn get_spilled(&self, key: &Key) -> Option<Entity>
-        ensures { (text : List ℕ) → is_key_of text key.now ≡ true
-            → result ≡ found_spilled self.now.1 text }
-    {
-        if self.spilled.is_empty() {
-            return None;
-        }
-        self.search(key)
-    }
-
-    #[cold]
-    #[inline(never)]
-    fn search(&self, key: &Key) -> Option<Entity>
-        ensures { (text : List ℕ) → is_key_of text key.now ≡ true
-            → result ≡ found_spilled self.now.1 text }
-    {
-        self.spilled.get(key).copied()
-    }
-
-    /// The bearer has its name, where nobody does; the answer says whether it is so. An `Err` comes where a growth was refused,
-    /// and changes nothing.
-    #[inline]
-    pub(crate) fn claim(
-        &mut self,
-        bearers: &mut Vec<Bearer>,
-        bearer: Bearer,
-    ) -> Result<bool, AllocError>
-        requires { AllPoint bearers.old.items self.old }
-        ensures point { AllPoint bearers.new.items self.new }
-        ensures more { (more : List Bearer) × (bearers.new.items ≡ bearers.old.items ++ more) }
-        ensures ok { OnOk result (Gathers (found_in bearers.old.items self.old) (borne_by bearer)
-            (found_in bearers.new.items self.new)) }
-        ensures done { IfOk result (λ done. (text : List ℕ) → is_key_of text bearer.key ≡ true
-            → done ≡ not (is_some (found_in bearers.old.items self.old text))) }
-        ensures err { OnErr result (KeepsAnswers (found_in bearers.old.items self.old)
-            (found_in bearers.new.items self.new)) }
-        ensures free { OnErr result ((text : List ℕ) → is_key_of text bearer.key ≡ true
-            → found_in bearers.old.items self.old text ≡ None) }
-    {
-        if self.get(bearers.as_slice(), &bearer.key).is_some() {
-            return Ok(false);
-        }
-        let place = bearers.len();
-        if self.cells.is_full() || place > u32::MAX as usize {
-            self.spill(bearer)?;
-        } else {
-            bearers.push(bearer)?;
-            self.cells.push(Cell {
-                tag: bearer.key.tag(),
-                place: place as u32,
-            });
-        }
-        Ok(true)
-    }
-
-    // What `claim` does where it finds no cell.
-    #[cold]
-    #[inline(never)]
-    fn spill(&mut self, bearer: Bearer) -> Result<(), AllocError>
+    /// A name of this tag may be in the tree from now on.
+    pub(crate) fn mark(&mut self, tag: u32)
         ensures cells { self.new.0 ≡ self.old.0 }
-        ensures here { OnOk result ((text : List ℕ) → is_key_of text bearer.key ≡ true
-            → found_spilled self.new.1 text ≡ Some bearer.entity) }
-        ensures others { OnOk result ((text : List ℕ) → is_key_of text bearer.key ≡ false
-            → found_spilled self.new.1 text ≡ found_spilled self.old.1 text) }
-        ensures err { OnErr result (KeepsAnswers (found_spilled self.old.1) (found_spilled self.new.1)) }
+        ensures here { HasMark self.new tag }
+        ensures others { (other : ℕ) → HasMark self.old other → HasMark self.new other }
     {
-        let _ = self.spilled.insert(bearer.key, bearer.entity)?;
-        Ok(())
+        self.marks[mark_of(tag)] = true;
     }
 
-    /// The cell's bearer has its name, where nobody does. An `Err` comes where a growth was refused.
+    /// Who bears the name, of this tag, and has a cell here.
     #[inline]
-    pub(crate) fn take_cell(&mut self, bearers: &[Bearer], cell: Cell) -> Result<(), AllocError>
-        requires all { AllPoint bearers.now self.old }
-        requires one { Points bearers.now cell }
-        ensures point { AllPoint bearers.now self.new }
-        ensures ok { OnOk result (Gathers (found_in bearers.now self.old) (found_by bearers.now (cell ∷ []))
-            (found_in bearers.now self.new)) }
+    pub(crate) fn find(&self, slots: &Slots, name: &str, tag: u32) -> Option<Entity>
+        ensures bears { IfSome result (λ e. own_name given_name slots.now e ≡ Some name.now) }
+        ensures none { IfNone result (HasNobody (own_name given_name slots.now) name.now
+            (λ e. IsIn (cell_to tag e) self.now.0)) }
     {
-        if self.cells.is_full() || !self.spilled.is_empty() {
-            return self.take_spilled(bearers, bearers[cell.place as usize]);
+        for cell in self.cells.as_slice() {
+            let bearer = cell.bearer(slots, name, tag);
+            if bearer.is_some() {
+                return bearer;
+            }
+        }
+        None
+    }
+
+    /// One more cell, where one is left; the answer says whether it is so.
+    #[inline]
+    pub(crate) fn push(&mut self, cell: Cell) -> bool
+        ensures room { result ≡ nat_lt (length self.old.0) 8 }
+        ensures done { MatchBool result (self.new ≡ (self.old.0 ++ cell ∷ [], self.old.1))
+            (self.new ≡ self.old) }
+    {
+        if self.cells.is_full() {
+            return false;
         }
         self.cells.push(cell);
-        Ok(())
+        true
     }
 
-    /// The bearer has its name and no cell, where nobody has that name. An `Err` comes where a growth was refused.
-    #[cold]
-    #[inline(never)]
-    pub(crate) fn take_spilled(
-        &mut self,
-        bearers: &[Bearer],
-        bearer: Bearer,
-    ) -> Result<(), AllocError>
-        requires { AllPoint bearers.now self.old }
-        ensures point { AllPoint bearers.now self.new }
-        ensures ok { OnOk result (Gathers (found_in bearers.now self.old) (borne_by bearer)
-            (found_in bearers.now self.new)) }
+    /// No cell leads from this tag to this index.
+    pub(crate) fn remove(&mut self, cell: Cell)
+        ensures gone { IsIn cell self.new.0 → ⊥ }
+        ensures others { (other : Cell) → other ≢ cell → IsIn other self.old.0 → IsIn other self.new.0 }
+        ensures marks { self.new.1 ≡ self.old.1 }
     {
-        if self.get(bearers, &bearer.key).is_some() {
-            return Ok(());
+        while let Some(place) = first(self.cells.as_slice(), cell) {
+            let _ = self.cells.remove(place);
         }
-        self.spill(bearer)
     }
 
-    /// Nobody bears the name.
-    pub(crate) fn remove(&mut self, bearers: &[Bearer], key: &Key)
-        requires { AllPoint bearers.now self.old }
-        ensures point { AllPoint bearers.now self.new }
-        ensures here { (text : List ℕ) → is_key_of text key.now ≡ true
-            → found_in bearers.now self.new text ≡ None }
-        ensures others { (text : List ℕ) → is_key_of text key.now ≡ false
-            → found_in bearers.now self.new text ≡ found_in bearers.now self.old text }
+    /// The cells for the bucket at this place among so many, without marks.
+    pub(crate) fn part(&self, place: usize, count: usize) -> Bucket
+        requires some { 0 < count }
+        requires few { count ≤ 4294967296 }
+        ensures { result.0 ≡ cells_for place count self.now.0 }
     {
-        while let Some(cell) = cell_of(self.cells.as_slice(), bearers, key) {
-            let _ = self.cells.remove(cell);
+        let mut part = ArrayVec::new();
+        for cell in self.cells.as_slice() {
+            if bucket_of(cell.tag, count) == place {
+                part.push(*cell);
+            }
         }
-        let _ = self.spilled.remove(key);
+        Bucket {
+            cells: part,
+            marks: [false; MARKS],
+        }
     }
 }
 
-// The first cell that leads to a bearer of the name.
-#[inline]
-fn cell_of(cells: &[Cell], bearers: &[Bearer], key: &Key) -> Option<usize>
-    requires { All (Points bearers.now) cells.now }
-    ensures { MatchOption result (IsCellless bearers.now cells.now key.now)
-        (IsCellOf bearers.now cells.now key.now) }
+// The first place of the cell among these.
+fn first(cells: &[Cell], cell: Cell) -> Option<usize>
+    ensures { MatchOption result (IsIn cell cells.now → ⊥)
+        (λ place. slice_get cells.now place ≡ Some cell) }
 {
-    for (place, cell) in cells.iter().enumerate() {
-        if leads(cell, bearers, key) {
+    for (place, other) in cells.iter().enumerate() {
+        if *other == cell {
             return Some(place);
         }
     }
     None
-}
-
-// Whether the cell leads to a bearer of the name.
-#[inline]
-fn leads(cell: &Cell, bearers: &[Bearer], key: &Key) -> bool
-    requires { Points bearers.now cell.now }
-    ensures { option_map (λ b. is_eq (key_cmp key.now b.key)) (slice_get bearers.now cell.now.place)
-        ≡ Some result }
-{
-    cell.tag == key.tag() && *key == bearers[cell.place as usize].key
 }

@@ -22,6 +22,7 @@ use crate::homes::Homes;
 use crate::names::Names;
 use crate::place::Place;
 use crate::slots::Slots;
+use crate::tag::tag_of;
 use eco_ids::{Entity, Id, Refusal, is_name};
 use std::alloc::{AllocError, Global};
 use std::marker::Model;
@@ -50,13 +51,14 @@ impl Model for EntityIndex {
     ghost use Rattle.eco_ids.specs.Indices.{Indexed};
     ghost use Rattle.eco_ids.specs.Renaming.{own_name};
     ghost use Rattle.eco_entities.specs.Registration.{Registration, given_name};
-    ghost use Rattle.eco_entities.specs.Registry.{IsRegistry, entity_of};
+    ghost use Rattle.eco_entities.specs.Listed.{IsListed};
+    ghost use Rattle.eco_entities.specs.Registry.{IsRegistry};
 
     ghost Value = { Indexed Registration };
 
     ghost view = { λ s. s.slots };
 
-    ghost invariant = { λ s. IsRegistry (entity_of s.names) (own_name given_name s.slots) };
+    ghost invariant = { λ s. IsRegistry (IsListed s.names) (own_name given_name s.slots) };
 }
 
 impl EntityIndex {
@@ -134,7 +136,7 @@ impl EntityIndex {
         ensures named_entity { result ≡ named_entity given_name self.now name.now }
         ensures exact { (e : Entity) → (result ≡ Some e) ↔ (own_name given_name self.now e ≡ Some name.now) }
     {
-        self.names.get(name)
+        self.names.get(&self.slots, name, tag_of(name))
     }
 
     /// Who lives where, lent for a walk over many indices.
@@ -306,13 +308,14 @@ impl EntityIndex {
         ensures err { OnErr result
             ((unfit_name given_name self.old (Some text.now) ≡ None) × (self.new ≡ self.old)) }
     {
-        let Some(own) = self.names.claim(text, entity)? else {
+        let tag = tag_of(text);
+        let Some(own) = self.names.claim(&self.slots, text, tag, entity)? else {
             return Ok(false);
         };
         match self.slots.settle_named(entity, own, arity) {
             Ok(()) => Ok(true),
             Err(refused) => {
-                self.names.remove(text);
+                self.names.remove(text, entity.index, None);
                 Err(refused)
             }
         }
@@ -400,17 +403,19 @@ impl EntityIndex {
         ensures err { OnErr result
             (IsTrue (may_rename given_name self.old entity false (Some name.now)) × (self.new ≡ self.old)) }
     {
-        let Some(own) = self.names.claim(name, entity)? else {
+        let tag = tag_of(name);
+        let Some(own) = self.names.claim(&self.slots, name, tag, entity)? else {
             return Ok(false);
         };
         match self.slots.give_name(entity, own) {
             Ok(Some(old)) => {
-                self.names.remove(old.as_str());
+                self.names.remove(old.as_str(), entity.index, Some(tag));
                 Ok(true)
             }
             Ok(None) => Ok(true),
             Err(refused) => {
-                self.names.remove(name);
+                let kept = self.slots.name_tag(entity);
+                self.names.remove(name, entity.index, kept);
                 Err(refused)
             }
         }
@@ -423,7 +428,7 @@ impl EntityIndex {
         ensures { self.new ≡ changed self.old entity (renamed None) }
     {
         if let Some(name) = self.slots.take_name(entity) {
-            self.names.remove(name.as_str());
+            self.names.remove(name.as_str(), entity.index, None);
         }
     }
 }

@@ -1,24 +1,14 @@
 //! A name as it is kept.
-ghost use Rattle.std.specs.Prelude.{◌≡◌, false, true, length, nat_le, MatchOption};
+ghost use Rattle.std.specs.Prelude.{◌≡◌, IfOk};
 ghost use Rattle.eco_entities.specs.Label.{label_text};
 
 use arrayvec::ArrayString;
-use std::alloc::AllocError;
+use std::alloc::{AllocError, Global};
 
 /// A name of at most 24 bytes, as most have. They lie in the value itself, so that a copy wants no memory for them.
 pub(crate) type Short = ArrayString<24>;
 
-/// The text, where it is short.
-pub(crate) fn short(text: &str) -> Option<Short>
-    ensures { MatchOption result (nat_le (length text.now) 24 ≡ false)
-        (λ s. (s.bytes ≡ text.now) × (nat_le (length text.now) 24 ≡ true)) }
-{
-    match Short::from(text) {
-        Ok(short) => Some(short),
-        Err(_) => None,
-    }
-}
-
+/// A name, by its length.
 pub(crate) enum Label {
     Short(Short),
     Long(String),
@@ -34,6 +24,16 @@ impl Drop for Label {
 }
 
 impl Label {
+    /// The name as it is kept. An `Err` comes where it is long and memory is refused.
+    pub(crate) fn new(alloc: Global, text: &str) -> Result<Label, AllocError>
+        ensures { IfOk result (λ l. label_text l ≡ text.now) }
+    {
+        match Short::from(text) {
+            Ok(short) => Ok(Label::Short(short)),
+            Err(_) => Ok(Label::Long(String::from_str(alloc, text)?)),
+        }
+    }
+
     pub(crate) fn as_str(&self) -> &str
         ensures { result.now ≡ label_text self.now }
     {

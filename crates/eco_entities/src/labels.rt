@@ -5,7 +5,7 @@ ghost use Rattle.eco_entities.specs.Changes.{KeepsAnswers};
 ghost use Rattle.eco_entities.specs.Pages.{name_at};
 
 use crate::label::Label;
-use crate::page::Page;
+use crate::page::{PAGE_LEN, Page};
 use std::alloc::{AllocError, Global};
 
 /// The names stand in pages of so many indices. A page has entries only for those that have a name, and there are pages
@@ -20,9 +20,6 @@ impl Drop for Labels {
         let Labels { pages: _ } = self;
     }
 }
-
-// How many indices a page is for: few, since a search in it may go through all.
-const PAGE_LEN: u32 = 64;
 
 // The page of the index.
 #[inline]

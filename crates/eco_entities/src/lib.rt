@@ -2,10 +2,10 @@
 #![tactic(auto)]
 
 mod bucket;
+mod cell;
 mod entity_index;
 mod free_set;
 mod homes;
-mod key;
 mod label;
 mod labels;
 pub mod laws;
@@ -13,9 +13,11 @@ mod level;
 mod names;
 mod page;
 mod place;
-mod short_names;
 mod slot;
+mod slot_list;
 mod slots;
+mod table;
+mod tag;
 
 pub use entity_index::EntityIndex;
 pub use homes::Homes;

@@ -11,6 +11,9 @@ use std::cmp::Ordering;
 use std::marker::Model;
 use std::mem::replace;
 
+/// How many indices a page is for: few, since a search in it may go through all.
+pub(crate) const PAGE_LEN: u32 = 64;
+
 /// A contract sees the names with their indices, which ascend.
 pub(crate) struct Page {
     entries: Vec<(u32, Label)>,
@@ -95,9 +98,22 @@ impl Page {
     }
 }
 
-// Where the index's entry is, or else where one would stand. Indices are mostly named in their order, so this begins at
-// the end.
+// Where the index's entry is, or else where one would stand. Where all indices of a page have names, an index's entry is as far
+// in the list as the index in the page.
+#[inline]
 fn seek(entries: &[(u32, Label)], index: u32) -> Result<usize, usize>
+    requires { IsTrue (is_sorted nat_cmp entries.now) }
+    ensures { MatchResult result (IsEntry index entries.now) (IsGap index entries.now) }
+{
+    let place = (index % PAGE_LEN) as usize;
+    if place < entries.len() && entries[place].0 == index {
+        return Ok(place);
+    }
+    seek_back(entries, index)
+}
+
+// The same, from the end, since indices are mostly named in their order.
+fn seek_back(entries: &[(u32, Label)], index: u32) -> Result<usize, usize>
     requires { IsTrue (is_sorted nat_cmp entries.now) }
     ensures { MatchResult result (IsEntry index entries.now) (IsGap index entries.now) }
 {

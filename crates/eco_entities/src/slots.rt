@@ -7,7 +7,9 @@ ghost use Rattle.eco_ids.specs.Indices.{changed, record_of, is_alive, is_free_at
 ghost use Rattle.eco_ids.specs.Outcome.{Meets};
 ghost use Rattle.std.specs.Option.{option_copied};
 ghost use Rattle.eco_ids.specs.Renaming.{own_name};
+ghost use Rattle.eco_entities.specs.Cells.{tag_of};
 ghost use Rattle.eco_entities.specs.Label.{label_text};
+ghost use Rattle.eco_entities.specs.Registry.{HasNobody};
 ghost use Rattle.eco_entities.specs.Needs.{need_of};
 ghost use Rattle.eco_entities.specs.Registration.{given_name, newcomer, own_arity, own_place, entity_at, placed, renamed};
 ghost use Rattle.eco_entities.specs.Slots.{living_slot, next_generation, put_at, GenerationFits, IsNextSlot};
@@ -18,6 +20,8 @@ use crate::label::Label;
 use crate::labels::Labels;
 use crate::place::Place;
 use crate::slot::{ALL_FIELDS, Slot};
+use crate::slot_list::{living, push_copies, put, put_in_room, slot_at};
+use crate::tag::tag_of;
 use eco_ids::{Entity, Refusal};
 use std::alloc::{AllocError, Global};
 use std::marker::Model;
@@ -163,6 +167,29 @@ impl Slots {
         } else {
             None
         }
+    }
+
+    /// The tag of a living entity's name, if it has one.
+    pub(crate) fn name_tag(&self, entity: Entity) -> Option<u32>
+        ensures { result ≡ option_map tag_of (own_name given_name self.now entity) }
+    {
+        match self.name(entity) {
+            Some(name) => Some(tag_of(name)),
+            None => None,
+        }
+    }
+
+    /// Who lives at the index under this name.
+    pub(crate) fn bearer(&self, index: u32, name: &str) -> Option<Entity>
+        ensures bears { IfSome result (λ e. own_name given_name self.now e ≡ Some name.now) }
+        ensures none { IfNone result (HasNobody (own_name given_name self.now) name.now
+            (λ e. e.index ≡ index)) }
+    {
+        let entity = self.entity_at(index)?;
+        if self.name(entity)? != name {
+            return None;
+        }
+        Some(entity)
     }
 
     /// The same, lent for a walk over many indices.
@@ -412,102 +439,5 @@ impl Slots {
         }
         self.slots[index].set_named(false);
         self.labels.remove(entity.index)
-    }
-}
-
-// The slot of a known index.
-#[inline]
-fn slot_at(slots: &[Slot], index: usize) -> Option<Slot>
-    ensures { result ≡ slice_get slots.now index }
-{
-    slots.get(index).copied()
-}
-
-// The slot of an entity, if it lives.
-#[inline]
-fn living(slots: &[Slot], entity: Entity) -> Option<Slot>
-    ensures { result ≡ living_slot slots.now entity }
-{
-    match slot_at(slots, entity.index as usize) {
-        Some(slot) if slot.is_living() && entity.generation == slot.generation() => Some(slot),
-        _ => None,
-    }
-}
-
-// The slot is at the index from now on, which is known or the first unknown one, and the index isn't free. An `Err` leaves
-// both.
-#[inline(always)]
-fn put(
-    slots: &mut Vec<Slot>,
-    free: &mut FreeSet,
-    index: usize,
-    slot: Slot,
-) -> Result<(), AllocError>
-    requires { IsNextSlot index (length slots.old.items) (length free.old) }
-    ensures slots { OnOk result (slots.new.items ≡ put_at index slot slots.old.items) }
-    ensures free { OnOk result (free.new ≡ put_at index false free.old) }
-    ensures err_slots { OnErr result (slots.new.items ≡ slots.old.items) }
-    ensures err_free { OnErr result (free.new ≡ free.old) }
-{
-    if index < slots.len() {
-        free.remove(index);
-        slots[index] = slot;
-        return Ok(());
-    }
-    if slots.len() == slots.capacity() {
-        grow(slots)?;
-    }
-    free.grow(1)?;
-    slots.push_reserved(slot);
-    Ok(())
-}
-
-// A quarter of the most indices that a world may have.
-const QUARTER: usize = 262_144;
-
-// Room for one more slot, where there is none. The list grows fourfold, or doubles where so much is refused: it is copied less
-// often than one that only doubles, and the blocks that it leaves behind are small beside it, so that an allocator that
-// keeps some memory for the next world keeps them all.
-#[cold]
-#[inline(never)]
-fn grow(slots: &mut Vec<Slot>) -> Result<(), AllocError>
-    ensures items { slots.new.items ≡ slots.old.items }
-    ensures room { OnOk result (vec_len slots.new < vec_capacity slots.new) }
-{
-    let known = slots.len();
-    if known <= QUARTER {
-        let _ = slots.reserve(3 * known);
-    }
-    slots.reserve(1)
-}
-
-// What `put` does, where it wants no memory. The answer says whether it does; if it would, both stay as they are.
-#[inline(always)]
-fn put_in_room(slots: &mut Vec<Slot>, free: &mut FreeSet, index: usize, slot: Slot) -> bool
-    requires { IsNextSlot index (length slots.old.items) (length free.old) }
-    ensures slots { IsTrue result → slots.new.items ≡ put_at index slot slots.old.items }
-    ensures free { IsTrue result → free.new ≡ put_at index false free.old }
-    ensures same_slots { IsFalse result → slots.new.items ≡ slots.old.items }
-    ensures same_free { IsFalse result → free.new ≡ free.old }
-{
-    if index < slots.len() {
-        free.remove(index);
-        slots[index] = slot;
-        return true;
-    }
-    if slots.len() == slots.capacity() || !free.push_in_room() {
-        return false;
-    }
-    slots.push_reserved(slot);
-    true
-}
-
-// Appends copies of a slot, for which there is room.
-fn push_copies(slots: &mut Vec<Slot>, slot: Slot, count: usize)
-    requires { vec_len slots.old + count ≤ vec_capacity slots.old }
-    ensures { slots.new.items ≡ slots.old.items ++ replicate count slot }
-{
-    for _ in 0..count {
-        slots.push_reserved(slot);
     }
 }

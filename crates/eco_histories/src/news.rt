@@ -1,7 +1,7 @@
 //! What is known of one history of a registry.
 ghost use Rattle.std.specs.Prelude.{◌≡◌, ◌≢◌, ◌<◌, ◌⊎◌, length, Some, slice_get, IfSome, IfNone, MatchBool};
 ghost use mathlib.Core.List.{IsPrefix};
-ghost use Rattle.eco_histories.specs.Marks.{mark_of};
+ghost use Rattle.eco_histories.specs.Marks.{mark_of_book};
 
 use crate::front::Front;
 use crate::registry::{Naming, Title};
@@ -10,7 +10,7 @@ use crate::registry::{Naming, Title};
 pub struct News<E, J: Naming> {
     pub title: Title<J>,
     pub front: Front<E>,
-    pub ghost titled: { slice_get title.marks.seen.log title.number ≡ Some (mark_of front.seen.book) },
+    pub ghost titled: { slice_get title.marks.seen.log title.number ≡ Some (mark_of_book front.seen.book) },
 }
 
 // By hand, so that dropping it is one call: a derived drop is proved anew at each early return of whoever holds it.

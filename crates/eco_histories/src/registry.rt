@@ -1,7 +1,7 @@
 //! Which histories there are. Each has a number of its own.
 ghost use Rattle.std.specs.Prelude.{◌≡◌, ◌++◌, ◌∷◌, [], length, Some, slice_get, IfSome, IfNone};
 ghost use mathlib.Core.List.{IsPrefix};
-ghost use Rattle.eco_histories.specs.Marks.{mark_of};
+ghost use Rattle.eco_histories.specs.Marks.{mark_of_book};
 ghost use Rattle.eco_histories.specs.Rules.{book_head};
 
 use crate::front::{Front, Head, begin};
@@ -82,9 +82,9 @@ pub struct Enrols;
 
 impl<E> Plain<Front<E>, HistoryMark, u64> for Enrols {
     ghost use Rattle.std.specs.Prelude.{None};
-    ghost use Rattle.eco_histories.specs.Marks.{mark_of};
+    ghost use Rattle.eco_histories.specs.Marks.{mark_of_book};
 
-    ghost ask = { λ front. mark_of front.seen.book };
+    ghost ask = { λ front. mark_of_book front.seen.book };
 
     ghost state = { λ front. None };
 }
@@ -103,8 +103,8 @@ impl<J: Naming> Registry<J> {
     /// 2^62 of them; that it is so only there is not proved, since who else adds to the list is not known here.
     pub fn enrol<E>(&mut self, front: &Front<E>) -> Option<Title<J>>
         ensures some { IfSome result (λ t. (t.number ≡ length self.old.front.seen.log)
-            × (slice_get t.marks.seen.log t.number ≡ Some (mark_of front.now.seen.book))
-            × (self.new.front.seen.log ≡ self.old.front.seen.log ++ mark_of front.now.seen.book ∷ [])) }
+            × (slice_get t.marks.seen.log t.number ≡ Some (mark_of_book front.now.seen.book))
+            × (self.new.front.seen.log ≡ self.old.front.seen.log ++ mark_of_book front.now.seen.book ∷ [])) }
         ensures none { IfNone result (self.new.front ≡ self.old.front) }
         ensures grown { IsPrefix self.old.front.seen.log self.new.front.seen.log }
     {

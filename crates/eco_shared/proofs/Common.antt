@@ -3,7 +3,7 @@ pub use Rattle.std.proofs.Common.{Bool, Err, IsTrue, List, MatchBool, None, Ok, 
 pub use Rattle.std.proofs.Common.{subst, suc, sym, true, true≢false, zero, ℕ, ⊎_elim, ◌++◌, ◌∙◌, ◌∷◌, ◌≡◌, ◌≢◌, ◌≤◌}
 pub use Rattle.std.specs.Arc.{arc_value}
 pub use Rattle.std.specs.List.{All}
-pub use Rattle.eco_histories.specs.Marks.{mark_of}
+pub use Rattle.eco_histories.specs.Marks.{mark_of_book}
 pub use Rattle.eco_ids.specs.World.{WorldState, entities, with_entities}
 pub use Rattle.eco_shared.specs.Histories.{IsAfter, IsMerged}
 pub use Rattle.eco_shared.specs.Repeating.{KeepsUp, Leads, MergesHaveOneEnd, Repeats, merge_of}

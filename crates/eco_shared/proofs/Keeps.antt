@@ -1,6 +1,6 @@
 -- Each step keeps the rule.
 use Rattle.eco_shared.proofs.Common.{◌≡◌, ◌≢◌, ℕ, zero, suc, true, false, true≢false, List, [], ◌∷◌, ◌++◌, set, refl, sym, ap}
-use Rattle.eco_shared.proofs.Common.{◌∙◌, subst, ⊎_elim, mark_of, WorldState, Merge, Knows, Shown, IsAfter, IsMerged, shown_world, history, shown_state}
+use Rattle.eco_shared.proofs.Common.{◌∙◌, subst, ⊎_elim, mark_of_book, WorldState, Merge, Knows, Shown, IsAfter, IsMerged, shown_world, history, shown_state}
 use Rattle.eco_shared.proofs.Common.{knows, nothing, KnowsOf, Follows, GoesOn, Kept, Sees, Opens, Stays}
 use mathlib.Core.Option.{some, some-ne-none, some-injective}
 use lib.ListN.{get_elem?}
@@ -25,13 +25,13 @@ kept_set s views by w mine others j u e k =
 -- what is known of a state of the shared world is all that it says
 same_names : (v : Knows) (s t : Shown) → shown_state t ≡ shown_state s → KnowsOf v s → KnowsOf v t
 same_names v s t same h =
-    subst (λ x. IsAfter v.start x.1.seen.log x.0 × (v.mark ≡ mark_of x.1.seen.book)) (sym same) h
+    subst (λ x. IsAfter v.start x.1.seen.log x.0 × (v.mark ≡ mark_of_book x.1.seen.book)) (sym same) h
 
 -- one merge more is known
 follows_names : (v : Knows) (s t : Shown) → Follows s t → KnowsOf v s → KnowsOf v t
 follows_names v s t f h =
     let longer : IsAfter v.start (history s ++ f.1 ∷ []) (shown_world t) = after_push v.start (history s) (shown_world s) f.1 (shown_world t) h.0 f.3 in
-    (subst (λ l. IsAfter v.start l (shown_world t)) (sym f.2) longer, h.1 ∙ sym (ap mark_of f.0))
+    (subst (λ l. IsAfter v.start l (shown_world t)) (sym f.2) longer, h.1 ∙ sym (ap mark_of_book f.0))
 
 pub begins : (s : Shown) → Kept s (nothing ∷ [])
 begins s zero v e k = absurd (off (subst (λ (u : Knows). u.known ≡ true) (sym (some-injective _ _ e)) k))
@@ -47,7 +47,7 @@ admits s views h by v e k =
 -- the first publish, which adds nothing to the empty history
 pub opens : (by : ℕ) (v : Knows) (s t : Shown) → history s ≡ [] → shown_state t ≡ shown_state s → TurnsAt Kept by v s t Opens
 opens by v s t none same views h at =
-    let w : Knows = knows (shown_world s) (mark_of s.front.seen.book) in
+    let w : Knows = knows (shown_world s) (mark_of_book s.front.seen.book) in
     let mine : KnowsOf w s = (subst (λ l. IsAfter (shown_world s) l (shown_world s)) (sym none) refl, refl) in
     let all : Kept s (set views by w) = kept_set s views by w (λ _. mine) h in
     (w, (λ j u e k. same_names u s t same (all j u e k)), refl)

@@ -4,7 +4,7 @@ use mathlib.Core.Option.{some}
 use lib.ListN.{get_elem?}
 use Rattle.std.specs.Arc.{arc_value}
 use Rattle.eco_ids.specs.World.{WorldState, first_world}
-use Rattle.eco_histories.specs.Marks.{mark_of}
+use Rattle.eco_histories.specs.Marks.{mark_of_book}
 use Rattle.eco_histories.specs.declared.front.Front.{Front}
 use Rattle.eco_histories.specs.declared.registry.HistoryMark.{HistoryMark}
 use Rattle.eco_shared.specs.declared.merge.Merge.{Merge}
@@ -40,7 +40,7 @@ GoesOn s t = Follows s t ⊎ (shown_state t ≡ shown_state s)
 
 -- what a view knows of what is shown
 abbrev pub KnowsOf : Knows → Shown → Type 0
-KnowsOf v s = IsAfter v.start (history s) (shown_world s) × (v.mark ≡ mark_of s.front.seen.book)
+KnowsOf v s = IsAfter v.start (history s) (shown_world s) × (v.mark ≡ mark_of_book s.front.seen.book)
 
 abbrev pub Kept : Shown → List Knows → Type 0
 Kept s views = (by : ℕ) (v : Knows) → get_elem? views by ≡ some v → v.known ≡ true → KnowsOf v s
@@ -49,7 +49,7 @@ abbrev pub Sees : Knows → Shown → Shown → Knows → Type 0
 Sees v s t w = (w ≡ v) × KnowsOf v t
 
 abbrev pub Opens : Knows → Shown → Shown → Knows → Type 0
-Opens v s t w = w ≡ knows (shown_world s) (mark_of s.front.seen.book)
+Opens v s t w = w ≡ knows (shown_world s) (mark_of_book s.front.seen.book)
 
 abbrev pub Stays : Knows → Shown → Shown → Knows → Type 0
 Stays v s t w = w ≡ v

@@ -4,7 +4,7 @@ ghost use Rattle.std.specs.Prelude.{slice_get, IfOk, IfErr, IfSome};
 ghost use Rattle.std.specs.List.{All};
 ghost use Rattle.std.specs.Arc.{arc_value};
 ghost use Rattle.left_right.specs.Sides.{view};
-ghost use Rattle.eco_histories.specs.Marks.{mark_of};
+ghost use Rattle.eco_histories.specs.Marks.{mark_of_book};
 ghost use Rattle.eco_histories.specs.Rules.{book_head};
 ghost use Rattle.eco_ids.specs.Births.{may_admit};
 ghost use Rattle.eco_ids.specs.World.{entities};
@@ -78,10 +78,10 @@ pub struct Merger<J: Naming, R: Wait + Drop> {
     pub(crate) spare: Option<Spare>,
     pub(crate) stopped: bool,
     ghost known: { ((view writer.desk.place).known ≡ true)
-        × ((view writer.desk.place).mark ≡ mark_of writer.desk.shown.value.front.seen.book) },
+        × ((view writer.desk.place).mark ≡ mark_of_book writer.desk.shown.value.front.seen.book) },
     ghost head_is: { head ≡ book_head writer.desk.shown.value.front.seen.book },
     ghost titled: { slice_get title.marks.seen.log title.number
-        ≡ Some (mark_of writer.desk.shown.value.front.seen.book) },
+        ≡ Some (mark_of_book writer.desk.shown.value.front.seen.book) },
     ghost clear: { stopped ≡ false → length (drop writer.behind writer.log.items) ≡ 0 },
     ghost keeps_up: { KeepsUp spare (shown_world writer.desk.shown.value) },
 }

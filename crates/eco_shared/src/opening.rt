@@ -3,7 +3,7 @@ ghost use Rattle.std.specs.Prelude.{◌≡◌, ◌<◌, ◌≤◌, ◌∷◌, []
 ghost use Rattle.std.specs.List.{All};
 ghost use mathlib.Core.List.{IsPrefix};
 ghost use Rattle.left_right.specs.Sides.{view};
-ghost use Rattle.eco_histories.specs.Marks.{mark_of};
+ghost use Rattle.eco_histories.specs.Marks.{mark_of_book};
 ghost use Rattle.eco_ids.specs.declared.refusal.Refusal.TheVariants.{OutOfMemory};
 ghost use Rattle.eco_shared.specs.Sharing.{shown_world, shown_state, history, knows};
 ghost use Rattle.eco_shared.specs.Views.{IsNew};
@@ -53,7 +53,7 @@ fn publish_opening<R: Wait>(
     ensures same { IfOk result.1 (λ _. shown_state result.0.desk.shown.value
         ≡ shown_state writer.desk.shown.value) }
     ensures known { IfOk result.1 (λ _. view result.0.desk.place ≡ knows
-        (shown_world writer.desk.shown.value) (mark_of writer.desk.shown.value.front.seen.book)) }
+        (shown_world writer.desk.shown.value) (mark_of_book writer.desk.shown.value.front.seen.book)) }
 {
     let _ = again;
     writer.publish_as::<Opening, R>(rt)
@@ -72,7 +72,7 @@ fn open_writer<R: Wait>(
     ensures pending { IfOk result (λ w. drop w.behind w.log.items ≡ []) }
     ensures world { IfOk result (λ w. shown_world w.desk.shown.value ≡ world) }
     ensures front { IfOk result (λ w. w.desk.shown.value.front ≡ front.now) }
-    ensures known { IfOk result (λ w. view w.desk.place ≡ knows world (mark_of front.now.seen.book)) }
+    ensures known { IfOk result (λ w. view w.desk.place ≡ knows world (mark_of_book front.now.seen.book)) }
 {
     let (first, second) = copies(alloc, front, world)?;
     let again = first.another()?;

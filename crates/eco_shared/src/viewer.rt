@@ -2,7 +2,7 @@
 ghost use Rattle.std.specs.Prelude.{◌≡◌, true, IfSome};
 ghost use mathlib.Core.List.{IsPrefix};
 ghost use Rattle.left_right.specs.Sides.{view};
-ghost use Rattle.eco_histories.specs.Marks.{mark_of};
+ghost use Rattle.eco_histories.specs.Marks.{mark_of_book};
 ghost use Rattle.eco_shared.specs.Histories.{IsAfter};
 ghost use Rattle.eco_shared.specs.Sharing.{history, shown_world, KnowsOf};
 
@@ -24,7 +24,7 @@ pub struct Viewer<J: Naming, R: Wait + Drop> {
     // Behind the reader, which is given up before the writer.
     pub(crate) keeper: Keeper<R>,
     ghost known: { (view reader.place).known ≡ true },
-    ghost mark: { (view reader.place).mark ≡ mark_of news.front.seen.book },
+    ghost mark: { (view reader.place).mark ≡ mark_of_book news.front.seen.book },
 }
 
 // By hand, so that dropping it is one call: a derived drop is proved anew at each early return of whoever holds it.

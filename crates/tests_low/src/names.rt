@@ -3,8 +3,7 @@ use eco_entities::EntityIndex;
 use eco_ids::Entity;
 use std::alloc::{AllocError, Global};
 
-// So many that there are four for each of 256 buckets, of which some are full; and once half of them are given up, the first that
-// is given again finds that no more than half of the listed bearers' names are in use.
+// So many that there are four for each of 256 buckets, of which some are full.
 const MANY: u32 = 1024;
 
 // The name of this number.
@@ -70,7 +69,28 @@ fn kill_even(index: &mut EntityIndex) {
     }
 }
 
-// Whether names are found, given up and given again, also in a copy.
+// Whether the entities of odd indices take other names, which find them, while their old ones find nobody.
+fn are_renamed(index: &mut EntityIndex, alloc: Global) -> bool {
+    for number in (1..MANY).step_by(2) {
+        let entity = Entity {
+            index: number,
+            generation: 0,
+        };
+        let is_found = match format!(in alloc; "renamed_{number}") {
+            Ok(name) => {
+                index.rename(entity, Some(name.as_str())).is_ok()
+                    && index.lookup(name.as_str()) == Some(entity)
+            }
+            Err(_) => false,
+        };
+        if !is_found || !finds(index, alloc, number, None) {
+            return false;
+        }
+    }
+    true
+}
+
+// Whether names are found, given up, given again and changed, also in a copy.
 fn are_kept_apart(alloc: Global) -> bool {
     let mut index = EntityIndex::new(alloc, MANY);
     if !are_given(&mut index, alloc, false, 0) || !all_find(&index, alloc, Some(0)) {
@@ -85,6 +105,7 @@ fn are_kept_apart(alloc: Global) -> bool {
     are_free
         && are_given_again
         && all_find(&index, alloc, Some(1))
+        && are_renamed(&mut index, alloc)
         && all_find(&copy, alloc, Some(0))
 }
 

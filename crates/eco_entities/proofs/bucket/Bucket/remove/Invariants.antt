@@ -1,12 +1,11 @@
-use Rattle.eco_entities.proofs.Common.{◌≡◌, ℕ, false, List, length, found_by, is_key_of, All, Points}
+use Rattle.eco_entities.proofs.Common.{◌≡◌, ◌≢◌, length, IsIn, Cell}
 use Rattle.eco_entities.proofs.bucket.Bucket.remove.Given as goal
 
-abbrev pub invariant-loop-cell : goal.invariant-loop-cell
-invariant-loop-cell l = record {
-  point : All (Points l.bearers) l.self-inside.cells.items;
-  others : (text : List ℕ) → is_key_of text l.key ≡ false → found_by l.bearers l.self-inside.cells.items text ≡ found_by l.bearers l.fn.self.0 text;
-  tree : l.self-inside.spilled ≡ l.initial.self-inside.spilled;
+abbrev pub invariant-loop-place : goal.invariant-loop-place
+invariant-loop-place l = record {
+  others : (other : Cell) → other ≢ l.cell → IsIn other l.fn.self.0 → IsIn other l.self-inside.cells.items;
+  marks : l.self-inside.marks ≡ l.fn.self.1;
 }
 
-abbrev pub decreases-loop-cell : goal.decreases-loop-cell
-decreases-loop-cell l = length l.self-inside.cells.items
+abbrev pub decreases-loop-place : goal.decreases-loop-place
+decreases-loop-place l = length l.self-inside.cells.items

@@ -1,4 +1,3 @@
-use Rattle.eco_entities.proofs.Common.{sym, ◌∙◌, same_Some}
 use Rattle.eco_entities.specs.Rules.{IsRuled}
 use Rattle.eco_entities.proofs.entity_index.EntityIndex.rules.Goals as goal
 
@@ -9,6 +8,6 @@ returns c =
       within = c.rules.ensures.within;
       generations = c.rules.ensures.generations;
       proper = c.self.invariant.proper;
-      unique = λ a b name ha hb. same_Some a b (sym (c.self.invariant.listed name a ha) ∙ c.self.invariant.listed name b hb);
+      unique = c.self.invariant.unique;
     } in
     rw c.self.view_is at ruled

@@ -1,5 +1,5 @@
-use Rattle.eco_entities.proofs.Common.{◌≡◌, ◌∙◌, ap, refl, None, Some, next_entity}
-use Rattle.eco_entities.proofs.Owners.{own-new, own_of_next}
+use Rattle.eco_entities.proofs.Common.{◌≡◌, ◌∙◌, ap, None, Some, next_entity}
+use Rattle.eco_entities.proofs.Owners.{own-new}
 use Rattle.eco_entities.proofs.Registers.{registry_nameless}
 use Rattle.eco_entities.proofs.entity_index.EntityIndex.settle_nameless.Goals as goal
 
@@ -9,4 +9,4 @@ invariant_of-self-2 c =
     let w = c.self.inside.slots in
     let next : next_entity w ≡ Some e = ap next_entity c.self.view_is ∙ c.requires in
     rw c.in_ok-settle_nameless.ensures.ok
-    (registry_nameless e c.self.invariant (own_of_next w e next) (record { all = λ k. refl }) (own-new w e None c.args.arity next))
+    (registry_nameless e c.self.invariant (own-new w e None c.args.arity next))

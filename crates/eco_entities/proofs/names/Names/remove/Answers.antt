@@ -1,18 +1,20 @@
-use Rattle.eco_entities.proofs.Common.{length, nat_le, None, btree_map_updates_text, get_by_text, short_entity_of}
-use Rattle.eco_entities.proofs.Texts.{changes_text, left_changes, right_changes}
+use Rattle.eco_entities.proofs.Common.{refl, sym, subst, cell_to, tag_of, get_by_text, HasMarkAt, IsAt}
+use Rattle.eco_entities.proofs.Listings.{listed_still, spared}
 use Rattle.eco_entities.proofs.names.Names.remove.Goals as goal
 
-pub returns-in-Some : goal.returns-in-Some
-returns-in-Some c =
-    let long = get_by_text c.args.self.now.long in
-    left_changes (λ k. nat_le (length k) 24) (short_entity_of c.args.self.now.short) (short_entity_of c.remove.new.self) long long c.args.name.now None
-    c.in-Some.ensures.1 (rw c.in-Some.ensures.0 at c.remove.ensures)
+pub returns-then-is_marked-clause-others : goal.returns-then-is_marked-clause-others
+returns-then-is_marked-clause-others c = λ other e apart beside.
+    let old = c.args.self.now in
+    let new = c.forget.new.self in
+    listed_still old.table new.table (get_by_text old.spilled) (get_by_text new.spilled) other e
+    (λ at. subst (λ t. IsAt t (cell_to (tag_of other) e)) (sym c.forget.ensures.table)
+    (c.remove_unless.ensures.cells (cell_to (tag_of other) e) (spared c.args.index c.tag_of-tag.result c.args.kept e other beside) at))
+    (λ marked. subst (λ t. HasMarkAt t (tag_of other)) (sym c.forget.ensures.table) (c.remove_unless.ensures.marks (tag_of other) marked))
+    (c.forget.ensures.tree.others other apart)
 
-pub returns-in-None : goal.returns-in-None
-returns-in-None c =
-    let name = c.args.name.now in
-    let m = c.args.self.now.long in
-    let n = c.remove-in-None.new.self in
-    let short = short_entity_of c.args.self.now.short in
-    right_changes (λ k. nat_le (length k) 24) short short (get_by_text m) (get_by_text n) name None c.in-None.ensures
-    (changes_text name m n None (btree_map_updates_text name m n None c.remove-in-None.ensures.updates))
+pub returns-else-is_marked-clause-others : goal.returns-else-is_marked-clause-others
+returns-else-is_marked-clause-others c = λ other e apart beside.
+    let old = c.args.self.now in
+    listed_still old.table c.remove_unless.new.self (get_by_text old.spilled) (get_by_text old.spilled) other e
+    (c.remove_unless.ensures.cells (cell_to (tag_of other) e) (spared c.args.index c.tag_of-tag.result c.args.kept e other beside))
+    (c.remove_unless.ensures.marks (tag_of other)) refl

@@ -1,5 +1,5 @@
 -- What a stage keeps of commands means.
-use Rattle.std.specs.Prelude.{◌≡◌, All, Bool, List, None, Option, Some, false, map, option_map, string_bytes, true}
+use Rattle.std.specs.Prelude.{◌≡◌, ◌+◌, ◌<◌, ◌++◌, ◌∷◌, [], ℕ, ℤ, All, Bool, List, None, Option, Some, drop, false, map, option_map, string_bytes, take, true}
 use Rattle.std.specs.Mem.{manually_drop_value}
 use Rattle.eco_ids.specs.Run as run
 use Rattle.eco_ids.specs.World.{padded}
@@ -7,6 +7,7 @@ use Rattle.eco_ids.specs.declared.entity.Entity.{Entity}
 use Rattle.eco_ids.specs.declared.id.Id.{Id}
 use Rattle.eco_ids.specs.declared.value.Value.{Value}
 use Rattle.eco_stages.specs.declared.recorded.Recorded.{Recorded}
+use Rattle.eco_stages.specs.declared.run_set.RunSet.{RunSet}
 use Rattle.eco_stages.specs.declared.recorded.Recorded.TheVariants.{Create, Add, Remove, Set, SetWide, Clear, Rename, Delete, DeleteWith, RemoveAll}
 
 -- the command of the definitions: zeros stand behind few fields, and a name is its bytes
@@ -14,7 +15,7 @@ abbrev pub recorded_command : Recorded → run.Command
 recorded_command (Create e) = run.Create e
 recorded_command (Add e i) = run.Add e i
 recorded_command (Remove e i) = run.Remove e i
-recorded_command (Set e i fields) = run.Set e i (padded fields)
+recorded_command (Set more e i fields) = run.Set e i (padded fields)
 recorded_command (SetWide e i v) = run.Set e i (manually_drop_value v).value
 recorded_command (Clear e) = run.Clear e
 recorded_command (Rename e name) = run.Rename e (option_map string_bytes (manually_drop_value name))
@@ -22,9 +23,49 @@ recorded_command (Delete e) = run.Delete e
 recorded_command (DeleteWith i) = run.DeleteWith i
 recorded_command (RemoveAll i) = run.RemoveAll i
 
--- each of them
-abbrev pub commands_of : List Recorded → List run.Command
-commands_of commands = map recorded_command commands
+-- how many sets of its run follow it
+abbrev pub more_of : Recorded → ℕ
+more_of (Set more e i fields) = more
+more_of _ = 0
+
+-- both
+abbrev pub part_of : Recorded → run.Command × ℕ
+part_of c = (recorded_command c, more_of c)
+
+-- the command of a set of a run, whose id this is
+abbrev pub set_of_run : Id → RunSet → run.Command
+set_of_run i s = run.Set s.entity i (padded s.fields)
+
+-- the same, behind the first command of the run
+abbrev pub set_like : run.Command → RunSet → run.Command
+set_like (run.Set e i v) = set_of_run i
+set_like c = λ s. c
+
+-- each command, and behind it the sets of its run, which are taken from the list of all sets of runs, in order
+abbrev pub commands_in : List (run.Command × ℕ) → List RunSet → List run.Command
+commands_in [] sets = []
+commands_in (p ∷ ps) sets = p.0 ∷ map (set_like p.0) (take p.1 sets) ++ commands_in ps (drop p.1 sets)
+
+-- how many sets of runs there are
+abbrev pub sets_in : List (run.Command × ℕ) → ℕ
+sets_in [] = 0
+sets_in (p ∷ ps) = p.1 + sets_in ps
+
+-- the commands that are recorded
+abbrev pub commands_of : List Recorded → List RunSet → List run.Command
+commands_of commands sets = commands_in (map part_of commands) sets
+
+-- a set of the id
+abbrev pub IsSetOf : Id → run.Command → Type 0
+IsSetOf i c = (e : Entity) × (v : Value) × (c ≡ run.Set e i v)
+
+-- one that one set more may follow
+abbrev pub IsRunOf : Id → Recorded → Type 0
+IsRunOf i c = (more : ℕ) × (e : Entity) × (fields : List ℤ) × (c ≡ Set more e i fields) × (more < 65535)
+
+-- of some id
+abbrev pub HasRun : Recorded → Type 0
+HasRun c = (i : Id) × IsRunOf i c
 
 -- it owns memory
 abbrev pub owns : Recorded → Bool

@@ -11,6 +11,7 @@ mod merging;
 mod outcomes;
 mod recorded;
 mod report;
+mod run_set;
 mod stage;
 
 pub use command::Command;
@@ -21,4 +22,5 @@ pub use merging::{MergeTarget, apply_stages, room_for};
 pub use outcomes::Outcomes;
 pub use recorded::{KEPT_FIELDS, Recorded};
 pub use report::Report;
+pub use run_set::{RUN_FIELDS, RunSet};
 pub use stage::Stage;

@@ -1,15 +1,16 @@
 //! Stages that are done by whoever does commands.
-ghost use Rattle.std.specs.Prelude.{◌≡◌, ◌+◌, ◌≤◌, ◌<◌, ◌∷◌, [], length, take, IfOk, IsTrue, OnErr};
+ghost use Rattle.std.specs.Prelude.{◌≡◌, ◌+◌, ◌≤◌, ◌<◌, ◌++◌, ◌∷◌, [], length, map, take, IfOk, IsTrue, OnErr};
 ghost use Rattle.eco_ids.specs.Outcome.{Meets};
 ghost use Rattle.eco_ids.specs.Run.{Applies, may_want};
 ghost use Rattle.eco_ids.specs.World.{WorldState};
 ghost use Rattle.eco_stages.specs.Merging.{all_commands, has_commands, AreDone};
-ghost use Rattle.eco_stages.specs.Recorded.{commands_of, recorded_command};
+ghost use Rattle.eco_stages.specs.Recorded.{commands_in, commands_of, more_of, part_of, recorded_command, set_like, set_of_run, sets_in};
 
 use crate::outcomes::Outcomes;
 use crate::recorded::Recorded;
+use crate::run_set::RunSet;
 use crate::stage::Stage;
-use eco_ids::Refusal;
+use eco_ids::{Id, Refusal};
 use std::alloc::{AllocError, Global};
 
 /// Whoever does commands: a world, into which stages are merged (Flecs manual, Systems, staging).
@@ -17,17 +18,16 @@ pub trait MergeTarget {
     // The world as definitions have it.
     ghost world: { Self → WorldState };
 
-    /// The command is done, or refused as the call of a world is that it stands for; a refused one changes nothing.
+    /// The command is done, or refused as the call of a world is that it stands for; a refused one changes nothing. The sets that
+    /// follow it are not done.
     fn apply(&mut self, command: &Recorded) -> Result<(), Refusal>
         ensures { Meets (Applies (recorded_command command.now) (world self.old))
             (may_want (recorded_command command.now) (world self.old)) (world self.old) result (world self.new) };
 
-    /// Commands are done up to the first that is no set, and their outcomes appended: so what is known of an id serves for all
-    /// sets of it. The answer is how many those are.
-    fn apply_sets(&mut self, commands: &[Recorded], outcomes: &mut Outcomes) -> usize
-        requires { length outcomes.old.outcomes + length commands.now ≤ outcomes.old.room }
-        ensures within { result ≤ length commands.now }
-        ensures done { AreDone (world self.old) (commands_of (take result commands.now))
+    /// Sets of the id are done, one after another, and their outcomes appended: so what is known of the id serves for all of them.
+    fn apply_sets(&mut self, id: Id, sets: &[RunSet], outcomes: &mut Outcomes)
+        requires { length outcomes.old.outcomes + length sets.now ≤ outcomes.old.room }
+        ensures { AreDone (world self.old) (map (set_of_run id) sets.now)
             outcomes.old outcomes.new (world self.new) };
 }
 
@@ -42,58 +42,47 @@ fn apply_one<W: MergeTarget>(world: &mut W, command: &Recorded, outcomes: &mut O
     outcomes.push(outcome);
 }
 
-// The sets that come first are done, or else the first command, and their outcomes appended. The answer is how many those are.
-fn apply_first_sets<W: MergeTarget>(
-    world: &mut W,
-    commands: &[Recorded],
-    outcomes: &mut Outcomes,
-) -> usize
-    requires some { 0 < length commands.now }
-    requires room { length outcomes.old.outcomes + length commands.now ≤ outcomes.old.room }
-    ensures some { 0 < result }
-    ensures within { result ≤ length commands.now }
-    ensures done { AreDone (W.world world.old) (commands_of (take result commands.now))
-        outcomes.old outcomes.new (W.world world.new) }
-{
-    let count = world.apply_sets(commands, outcomes);
-    if count > 0 {
-        return count;
-    }
-    apply_one(world, &commands[0], outcomes);
-    1
-}
-
-// The first command is done, and with a set those behind it, and their outcomes appended. The answer is how many those are.
+// The command is done, and then the sets of its run, which come first in the list; and their outcomes are appended. The answer is
+// how many sets those are.
 #[inline(always)]
 fn apply_next<W: MergeTarget>(
     world: &mut W,
-    commands: &[Recorded],
+    command: &Recorded,
+    sets: &[RunSet],
     outcomes: &mut Outcomes,
 ) -> usize
-    requires some { 0 < length commands.now }
-    requires room { length outcomes.old.outcomes + length commands.now ≤ outcomes.old.room }
-    ensures some { 0 < result }
-    ensures within { result ≤ length commands.now }
-    ensures done { AreDone (W.world world.old) (commands_of (take result commands.now))
+    requires sets { more_of command.now ≤ length sets.now }
+    requires room { length outcomes.old.outcomes + (more_of command.now + 1) ≤ outcomes.old.room }
+    ensures count { result ≡ more_of command.now }
+    ensures done { AreDone (W.world world.old) (commands_in (part_of command.now ∷ []) sets.now)
         outcomes.old outcomes.new (W.world world.new) }
 {
-    if commands[0].as_set().is_some() {
-        return apply_first_sets(world, commands, outcomes);
-    }
-    apply_one(world, &commands[0], outcomes);
-    1
+    eco_ids::laws::runs_keep_lawful();
+    apply_one(world, command, outcomes);
+    let Some((id, more)) = command.run() else {
+        return 0;
+    };
+    world.apply_sets(id, &sets[..more], outcomes);
+    more
 }
 
-// The commands are done, one after another, and their outcomes appended.
-fn apply_each<W: MergeTarget>(world: &mut W, commands: &[Recorded], outcomes: &mut Outcomes)
-    requires { length outcomes.old.outcomes + length commands.now ≤ outcomes.old.room }
-    ensures { AreDone (W.world world.old) (commands_of commands.now) outcomes.old outcomes.new
+// The commands are done, one after another and each with the sets of its run, and their outcomes appended.
+fn apply_each<W: MergeTarget>(
+    world: &mut W,
+    commands: &[Recorded],
+    sets: &[RunSet],
+    outcomes: &mut Outcomes,
+)
+    requires sets { sets_in (map part_of commands.now) ≡ length sets.now }
+    requires room { length outcomes.old.outcomes + length (commands_of commands.now sets.now)
+        ≤ outcomes.old.room }
+    ensures { AreDone (W.world world.old) (commands_of commands.now sets.now) outcomes.old outcomes.new
         (W.world world.new) }
 {
     eco_ids::laws::runs_keep_lawful();
     let mut done = 0;
-    while done < commands.len() {
-        done += apply_next(world, &commands[done..], outcomes);
+    for command in commands {
+        done += apply_next(world, command, &sets[done..], outcomes);
     }
 }
 
@@ -106,7 +95,8 @@ pub fn apply_stages<W: MergeTarget>(world: &mut W, stages: &[Stage], outcomes: &
 {
     eco_ids::laws::runs_keep_lawful();
     for stage in stages {
-        apply_each(world, stage.commands(), outcomes);
+        let (commands, sets) = stage.recorded();
+        apply_each(world, commands, sets, outcomes);
     }
 }
 

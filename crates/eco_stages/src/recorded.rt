@@ -1,12 +1,13 @@
 //! What a stage keeps of a command.
-ghost use Rattle.std.specs.Prelude.{◌≡◌, IfErr, IfNone, IfOk, IfSome, IsFalse, option_map, pos, string_bytes, take};
+ghost use Rattle.std.specs.Prelude.{◌≡◌, ◌+◌, ◌<◌, ◌≤◌, IfErr, IfNone, IfOk, IfSome, IsFalse, IsTrue, option_map, pos, string_bytes, take};
 ghost use Rattle.std.specs.List.{list_all};
 ghost use Rattle.std.specs.Ordering.{int_eq};
 ghost use Rattle.eco_ids.specs.Data.{is_zero_past};
 ghost use Rattle.eco_ids.specs.Run.{Set};
 ghost use Rattle.eco_ids.specs.World.{padded};
+ghost use Rattle.eco_ids.specs.declared.value.TheConstants.{FIELD_COUNT};
 ghost use Rattle.eco_stages.specs.Commands.{command_of};
-ghost use Rattle.eco_stages.specs.Recorded.{owns, parts_of_set, recorded_command};
+ghost use Rattle.eco_stages.specs.Recorded.{HasRun, IsRunOf, IsSetOf, more_of, owns, part_of, parts_of_set, recorded_command};
 
 use crate::command::Command;
 use eco_ids::{Entity, Id, Value};
@@ -17,8 +18,9 @@ use std::mem::ManuallyDrop;
 /// line of the processor's cache.
 pub const KEPT_FIELDS: usize = 4;
 
-/// A command as a stage keeps it. A value with a field past the first four that isn't 0, as only the second edition of the rules
-/// has them, stands apart, so that all other commands take no room for such fields. What a command owns is given up by its stage,
+/// A command as a stage keeps it, with how many sets of its run follow it: sets of one id, one after another, are a run, and all
+/// but the first of it stand apart, without the id. A value with a field past the first four that isn't 0, as only the second edition of the rules
+/// has them, stands apart too, so that all other commands take no room for such fields. What a command owns is given up by its stage,
 /// which knows whether there is such a command: so a stage without one is emptied at once.
 #[derive(Debug, Drop)]
 pub enum Recorded {
@@ -28,8 +30,9 @@ pub enum Recorded {
     Add(Entity, Id),
     /// [`Command::Remove`].
     Remove(Entity, Id),
-    /// [`Command::Set`] to the value of these fields, with zeros behind them.
-    Set(Entity, Id, [i64; KEPT_FIELDS]),
+    /// [`Command::Set`] to the value of these fields, with zeros behind them. So many sets of the same id follow it, which stand in
+    /// the stage's list of these.
+    Set(u16, Entity, Id, [i64; KEPT_FIELDS]),
     /// [`Command::Set`] to a value of more fields.
     SetWide(Entity, Id, ManuallyDrop<Box<Value>>),
     /// [`Command::Clear`].
@@ -52,29 +55,32 @@ fn are_zero(fields: &[i64]) -> bool
     fields.iter().all(|field| *field == 0)
 }
 
-// Whether the fields past the first are 0.
+// Whether the fields past so many are 0.
 #[inline(always)]
-fn has_few(value: Value) -> bool
-    ensures { result ≡ is_zero_past KEPT_FIELDS value }
+fn has_few(value: Value, count: usize) -> bool
+    requires { count ≤ FIELD_COUNT }
+    ensures { result ≡ is_zero_past count value }
 {
-    are_zero(&value.0[KEPT_FIELDS..])
+    are_zero(&value.0[count..])
 }
 
 // The first fields of a value.
 #[inline(always)]
-fn narrowed(value: Value) -> [i64; KEPT_FIELDS]
-    ensures { result ≡ take KEPT_FIELDS value.0 }
+fn narrowed<const N: usize>(value: Value) -> [i64; N]
+    requires { N ≤ FIELD_COUNT }
+    ensures { result ≡ take N value.0 }
 {
     *value.0.first_chunk().unwrap()
 }
 
 // The first fields of a value, where all behind them are 0.
 #[inline(always)]
-fn first_fields(value: Value) -> Option<[i64; KEPT_FIELDS]>
+pub(crate) fn first_fields<const N: usize>(value: Value) -> Option<[i64; N]>
+    requires { N ≤ FIELD_COUNT }
     ensures some { IfSome result (λ fields. padded fields ≡ value) }
-    ensures none { IfNone result (IsFalse (is_zero_past KEPT_FIELDS value)) }
+    ensures none { IfNone result (IsFalse (is_zero_past N value)) }
 {
-    if has_few(value) {
+    if has_few(value, N) {
         Some(narrowed(value))
     } else {
         None
@@ -104,11 +110,11 @@ impl Recorded {
     // A set as it is kept. An `Err` hands it back: no memory is left for a value that stands apart.
     #[inline(always)]
     fn of_set(alloc: Global, entity: Entity, id: Id, value: Value) -> Result<Recorded, Command>
-        ensures ok { IfOk result (λ r. recorded_command r ≡ Set entity id value) }
+        ensures ok { IfOk result (λ r. part_of r ≡ (Set entity id value, 0)) }
         ensures err { IfErr result (λ refused. refused ≡ Command.Set entity id value) }
     {
         if let Some(fields) = first_fields(value) {
-            return Ok(Recorded::Set(entity, id, fields));
+            return Ok(Recorded::Set(0, entity, id, fields));
         }
         match boxed(alloc, value) {
             Ok(apart) => Ok(Recorded::SetWide(entity, id, ManuallyDrop::new(apart))),
@@ -119,7 +125,7 @@ impl Recorded {
     // The command as it is kept. An `Err` hands it back: no memory is left for a value that stands apart.
     #[inline(always)]
     pub(crate) fn of(alloc: Global, command: Command) -> Result<Recorded, Command>
-        ensures ok { IfOk result (λ r. recorded_command r ≡ command_of command) }
+        ensures ok { IfOk result (λ r. part_of r ≡ (command_of command, 0)) }
         ensures err { IfErr result (λ refused. refused ≡ command) }
     {
         Ok(match command {
@@ -143,6 +149,41 @@ impl Recorded {
         matches!(self, Recorded::SetWide(_, _, _) | Recorded::Rename(_, _))
     }
 
+    /// The id of the sets that follow it, and how many those are. None, where there are none.
+    #[inline(always)]
+    pub fn run(&self) -> Option<(Id, usize)>
+        ensures some { IfSome result (λ r. IsSetOf r.0 (recorded_command self.now) × (r.1 ≡ more_of self.now)) }
+        ensures none { IfNone result (more_of self.now ≡ 0) }
+    {
+        match self {
+            Recorded::Set(more, _, id, _) if *more > 0 => Some((*id, *more as usize)),
+            _ => None,
+        }
+    }
+
+    // Whether it is a set of the id, and one set more may follow it.
+    #[inline(always)]
+    pub(crate) fn has_run_of(&self, id: Id) -> bool
+        ensures { IsTrue result → IsRunOf id self.now }
+    {
+        match self {
+            Recorded::Set(more, _, own, _) if own.is(id) && *more < u16::MAX => true,
+            _ => false,
+        }
+    }
+
+    // One set more follows it.
+    #[inline(always)]
+    pub(crate) fn lengthen(&mut self)
+        requires { HasRun self.old }
+        ensures part { part_of self.new ≡ (recorded_command self.old, more_of self.old + 1) }
+        ensures owns { owns self.new ≡ owns self.old }
+    {
+        if let Recorded::Set(more, _, _, _) = self {
+            *more += 1;
+        }
+    }
+
     // Gives up what the command owns.
     pub(crate) fn give_up(self) {
         match self {
@@ -158,21 +199,23 @@ impl Recorded {
         ensures { result ≡ parts_of_set (recorded_command self.now) }
     {
         match self {
-            Recorded::Set(entity, id, fields) => Some((*entity, *id, Value::of(*fields))),
+            Recorded::Set(_, entity, id, fields) => Some((*entity, *id, Value::of(*fields))),
             Recorded::SetWide(entity, id, value) => Some((*entity, *id, ***value)),
             _ => None,
         }
     }
 
-    /// The same command once more. An `Err` comes where no memory is left for what it owns.
+    /// The same command once more, with as many sets behind it. An `Err` comes where no memory is left for what it owns.
     pub(crate) fn try_copy(&self, alloc: Global) -> Result<Recorded, AllocError>
-        ensures { IfOk result (λ copy. recorded_command copy ≡ recorded_command self.now) }
+        ensures { IfOk result (λ copy. part_of copy ≡ part_of self.now) }
     {
         Ok(match self {
             Recorded::Create(entity) => Recorded::Create(*entity),
             Recorded::Add(entity, id) => Recorded::Add(*entity, *id),
             Recorded::Remove(entity, id) => Recorded::Remove(*entity, *id),
-            Recorded::Set(entity, id, fields) => Recorded::Set(*entity, *id, *fields),
+            Recorded::Set(more, entity, id, fields) => {
+                Recorded::Set(*more, *entity, *id, *fields)
+            }
             Recorded::SetWide(entity, id, value) => {
                 Recorded::SetWide(*entity, *id, ManuallyDrop::new(boxed(alloc, ***value)?))
             }

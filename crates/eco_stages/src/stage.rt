@@ -1,10 +1,13 @@
 //! A list of commands.
-ghost use Rattle.std.specs.Prelude.{◌≡◌, ◌==◌, ◌+◌, ◌≤◌, ◌++◌, ◌∷◌, [], length, take, vec_capacity, vec_len, IfErr, OnErr, OnOk};
+ghost use Rattle.std.specs.Prelude.{◌≡◌, ◌==◌, ◌+◌, ◌<◌, ◌≤◌, ◌++◌, ◌∷◌, [], IfErr, IsFalse, IsTrue, OnErr, OnOk, length, map, take, vec_capacity, vec_len};
+ghost use Rattle.eco_ids.specs.Run.{Set};
 ghost use Rattle.eco_stages.specs.Commands.{command_of};
-ghost use Rattle.eco_stages.specs.Recorded.{commands_of, OwnNothing};
+ghost use Rattle.eco_stages.specs.Recorded.{OwnNothing, commands_of, part_of, sets_in};
 
 use crate::command::Command;
 use crate::recorded::Recorded;
+use crate::run_set::RunSet;
+use eco_ids::{Entity, Id, Value};
 use std::alloc::{AllocError, Global};
 use std::marker::Model;
 
@@ -13,6 +16,8 @@ use std::marker::Model;
 #[derive(Debug)]
 pub struct Stage {
     commands: Vec<Recorded>,
+    // The sets that follow others of the same id, those of the first run first.
+    sets: Vec<RunSet>,
     // Whether one of them may own memory, which must be given up before it goes.
     has_owners: bool,
 }
@@ -22,6 +27,7 @@ impl Drop for Stage {
     fn drop(self) {
         let Stage {
             mut commands,
+            sets: _,
             has_owners,
         } = self;
         if has_owners {
@@ -42,15 +48,18 @@ fn give_up_past(commands: &mut Vec<Recorded>, count: usize)
 }
 
 impl Model for Stage {
-    ghost use Rattle.std.specs.Prelude.{List};
+    ghost use Rattle.std.specs.Prelude.{◌≡◌, List, length, map};
     ghost use Rattle.eco_ids.specs.Run.{Command};
-    ghost use Rattle.eco_stages.specs.Recorded.{commands_of, OwnNothing};
+    ghost use Rattle.eco_stages.specs.Recorded.{OwnNothing, commands_of, part_of, sets_in};
 
     ghost Value = { List Command };
 
-    ghost view = { λ s. commands_of s.commands.items };
+    ghost view = { λ s. commands_of s.commands.items s.sets.items };
 
-    ghost invariant = { λ s. OwnNothing s.has_owners s.commands.items };
+    ghost invariant = { λ s. record {
+      owners : OwnNothing s.has_owners s.commands.items;
+      sets : sets_in (map part_of s.commands.items) ≡ length s.sets.items;
+    } };
 }
 
 impl Stage {
@@ -60,6 +69,7 @@ impl Stage {
     {
         Stage {
             commands: Vec::new(alloc),
+            sets: Vec::new(alloc),
             has_owners: false,
         }
     }
@@ -71,8 +81,22 @@ impl Stage {
         ensures back { IfErr result (λ refused. refused ≡ command) }
         ensures err { OnErr result (self.new ≡ self.old) }
     {
-        // Room is asked for only where there is none: to ask is a call.
-        if self.commands.len() == self.commands.capacity() && self.commands.reserve(1).is_err() {
+        if let Command::Set(entity, id, value) = &command {
+            if self.record_in_run(*entity, *id, *value) {
+                return Ok(());
+            }
+        }
+        self.record_apart(command)
+    }
+
+    // The command comes last, and no set of its run follows it.
+    #[inline(always)]
+    fn record_apart(&mut self, command: Command) -> Result<(), Command>
+        ensures ok { OnOk result (self.new ≡ self.old ++ command_of command ∷ []) }
+        ensures back { IfErr result (λ refused. refused ≡ command) }
+        ensures err { OnErr result (self.new ≡ self.old) }
+    {
+        if !has_room(&mut self.commands) {
             return Err(command);
         }
         let recorded = Recorded::of(*self.commands.allocator(), command)?;
@@ -81,25 +105,47 @@ impl Stage {
         Ok(())
     }
 
-    /// The commands as they are kept, in their order.
-    pub fn commands(&self) -> &[Recorded]
-        ensures { commands_of result.now ≡ self.now }
+    // The set comes last in the run of the last command, where that is a set of the same id and there is room. The answer is whether
+    // it does; else the stage is as it was.
+    #[inline(always)]
+    fn record_in_run(&mut self, entity: Entity, id: Id, value: Value) -> bool
+        ensures yes { IsTrue result → self.new ≡ self.old ++ Set entity id value ∷ [] }
+        ensures no { IsFalse result → self.new ≡ self.old }
     {
-        self.commands.as_slice()
+        let Some(set) = RunSet::of(entity, value) else {
+            return false;
+        };
+        let Some(last) = self.commands.last_mut() else {
+            return false;
+        };
+        if !last.has_run_of(id) || !has_room(&mut self.sets) {
+            return false;
+        }
+        last.lengthen();
+        self.sets.push_reserved(set);
+        true
+    }
+
+    /// The commands as they are kept, in their order, and the sets of their runs.
+    pub fn recorded(&self) -> (&[Recorded], &[RunSet])
+        ensures all { commands_of result.0.now result.1.now ≡ self.now }
+        ensures sets { sets_in (map part_of result.0.now) ≡ length result.1.now }
+    {
+        (self.commands.as_slice(), self.sets.as_slice())
     }
 
     /// How many commands there are.
     pub fn len(&self) -> usize
         ensures { result ≡ length self.now }
     {
-        self.commands.len()
+        self.commands.len() + self.sets.len()
     }
 
     /// Whether there is none.
     pub fn is_empty(&self) -> bool
         ensures { result ≡ (length self.now == 0) }
     {
-        self.commands.is_empty()
+        self.len() == 0
     }
 
     /// Takes all commands out, as after a merge of them. The memory stays for those of the next frame.
@@ -111,6 +157,7 @@ impl Stage {
             self.has_owners = false;
         }
         self.commands.clear();
+        self.sets.clear();
     }
 
     /// The other stage's commands come last, in their order, each copied. An `Err` comes where memory is refused, and leaves the
@@ -120,14 +167,37 @@ impl Stage {
         ensures err { OnErr result (self.new ≡ self.old) }
     {
         let count = self.commands.len();
-        self.commands.reserve(other.len())?;
-        match push_copies(&mut self.commands, &mut self.has_owners, other.commands()) {
-            Ok(()) => Ok(()),
-            Err(refused) => {
-                give_up_past(&mut self.commands, count);
-                Err(refused)
-            }
+        self.commands.reserve(other.commands.len())?;
+        self.sets.reserve(other.sets.len())?;
+        if let Err(refused) = push_copies(
+            &mut self.commands,
+            &mut self.has_owners,
+            other.commands.as_slice(),
+        ) {
+            give_up_past(&mut self.commands, count);
+            return Err(refused);
         }
+        push_sets(&mut self.sets, other.sets.as_slice());
+        Ok(())
+    }
+}
+
+// Whether there is room for one more. It is asked for only where there is none: to ask is a call.
+#[inline(always)]
+fn has_room<T: Drop>(list: &mut Vec<T>) -> bool
+    ensures same { list.new.items ≡ list.old.items }
+    ensures room { IsTrue result → vec_len list.new < vec_capacity list.new }
+{
+    list.len() < list.capacity() || list.reserve(1).is_ok()
+}
+
+// The sets come last, in room that is there.
+fn push_sets(list: &mut Vec<RunSet>, sets: &[RunSet])
+    requires { vec_len list.old + length sets.now ≤ vec_capacity list.old }
+    ensures { list.new.items ≡ list.old.items ++ sets.now }
+{
+    for set in sets {
+        list.push_reserved(*set);
     }
 }
 
@@ -139,8 +209,8 @@ fn push_copies(
 ) -> Result<(), AllocError>
     requires room { vec_len list.old + length commands.now ≤ vec_capacity list.old }
     requires owners { OwnNothing has_owners.old list.old.items }
-    ensures ok { OnOk result (commands_of list.new.items
-        ≡ commands_of list.old.items ++ commands_of commands.now) }
+    ensures ok { OnOk result (map part_of list.new.items
+        ≡ map part_of list.old.items ++ map part_of commands.now) }
     ensures err { OnErr result (take (vec_len list.old) list.new.items ≡ list.old.items) }
     ensures owners { OwnNothing has_owners.new list.new.items }
 {

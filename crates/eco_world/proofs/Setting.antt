@@ -4,7 +4,6 @@ use Rattle.eco_world.proofs.Common.{is_some, true, false, refl}
 use Rattle.eco_world.proofs.Common.{◌∙◌, if◌then◌else◌, option_or, Entity, Id, One, Two, Refusal, NotAlive, Reserved, DeadId, NotData, TooWide}
 use Rattle.eco_world.proofs.Common.{Value, is_builtin, arity, arity_of, fits, first_refusal, changed, is_reserved, with_value, WorldState, Record, is_alive}
 use Rattle.eco_world.proofs.Common.{names_living, changed_each, MayNotSet, IsSettable, IsUnsettable}
-use Rattle.eco_world.specs.declared.settable.Settable.{Settable}
 
 module _ (w : WorldState) (e : Entity) (i : Id) (v : Value) where
   alive_alike : (x : Entity) → is_alive (changed w e (with_value i v)) x ≡ is_alive w x
@@ -36,13 +35,12 @@ module _ (w : WorldState) (e : Entity) (i : Id) (v : Value) where
     other = is.other;
   }
 
-  pub known_still : (known : Option Settable) → IfSome known (λ s. IsSettable w s.id s.arity) →
-      IfSome known (λ s. IsSettable (changed w e (with_value i v)) s.id s.arity)
+  pub known_still : (known : Option ℕ) → IfSome known (IsSettable w i) → IfSome known (IsSettable (changed w e (with_value i v)) i)
   known_still None is = tt
-  known_still (Some s) is = settable_still s.id s.arity is
+  known_still (Some fields) is = settable_still i fields is
 
   -- so it is whether the value was written or not
-  pub known_kept : (w2 : WorldState) (known : Option Settable) → IfSome known (λ s. IsSettable w s.id s.arity)
-      → (had : Bool) → MatchBool had (w2 ≡ changed w e (with_value i v)) (w2 ≡ w) → IfSome known (λ s. IsSettable w2 s.id s.arity)
-  known_kept w2 known is true eq = subst (λ x. IfSome known (λ s. IsSettable x s.id s.arity)) (sym eq) (known_still known is)
-  known_kept w2 known is false eq = subst (λ x. IfSome known (λ s. IsSettable x s.id s.arity)) (sym eq) is
+  pub known_kept : (w2 : WorldState) (known : Option ℕ) → IfSome known (IsSettable w i) → (had : Bool)
+      → MatchBool had (w2 ≡ changed w e (with_value i v)) (w2 ≡ w) → IfSome known (IsSettable w2 i)
+  known_kept w2 known is true eq = subst (λ x. IfSome known (IsSettable x i)) (sym eq) (known_still known is)
+  known_kept w2 known is false eq = subst (λ x. IfSome known (IsSettable x i)) (sym eq) is

@@ -8,14 +8,13 @@ pub mod laws;
 mod loss;
 mod query_id;
 mod row;
-mod settable;
 mod table_rows;
 mod type_order;
 mod world;
 
 pub use eco_answers::Results;
 pub use eco_query::{Access, Query, Slot, Term};
-pub use eco_stages::{Command, Recorded, Report, Stage};
+pub use eco_stages::{Command, Recorded, Report, RunSet, Stage};
 pub use eco_tables::Values;
 pub use entity_ref::EntityRef;
 pub use query_id::QueryId;

@@ -172,7 +172,7 @@ fn makes_at(commands: &[Recorded], place: usize, index: u32) -> bool {
 // Whether one of the stages makes the entity of an index by its command at a place.
 fn is_made(stages: &[Stage], place: usize, index: u32) -> bool {
     for stage in stages {
-        if makes_at(stage.commands(), place, index) {
+        if makes_at(stage.recorded().0, place, index) {
             return true;
         }
     }

@@ -54,7 +54,7 @@ fn is_set(command: &Recorded) -> bool {
 
 // Whether the stage has the set of that row alone.
 fn has_set(stage: &Stage) -> bool {
-    match stage.commands() {
+    match stage.recorded().0 {
         [command] => is_set(command),
         _ => false,
     }

@@ -1,10 +1,10 @@
 //! Systems run one by one, plainly: each asks the world as the one before it left it, records row by row, and is merged.
-use crate::plain::Deed;
+use crate::plain::{Deed, Had};
 use crate::plans::{Deeds, FramePlan};
 use eco_bodies::Action;
 use eco_ids::{Entity, FIELD_COUNT, Id, Refusal, Value};
 use eco_systems::{PHASES, Phase};
-use eco_world::{Command, Recorded, Report, Row, Stage, World};
+use eco_world::{Command, Report, Row, RunSet, Stage, World};
 use std::alloc::{AllocError, Global};
 
 /// A command that was merged: what it does, if that is a deed, and whether it was done.
@@ -77,16 +77,35 @@ pub fn number_of(outcome: Result<(), Refusal>) -> u8 {
     }
 }
 
-// What a command does, if there is one and that is a deed.
-fn deed_of(command: Option<&Recorded>) -> Option<Deed> {
-    Deed::of(command?)
+// What the sets of a run do.
+fn add_run(deeds: &mut Vec<Option<Deed>>, id: Id, sets: &[RunSet]) -> Result<(), AllocError> {
+    for set in sets {
+        let holder = set.entity;
+        deeds.push(Some(Deed::Set(Had { holder, id })))?;
+    }
+    Ok(())
+}
+
+// What each command of a stage does, if that is a deed, in order.
+fn deeds_of(alloc: Global, stage: &Stage) -> Result<Vec<Option<Deed>>, AllocError> {
+    let (commands, mut sets) = stage.recorded();
+    let mut deeds = Vec::with_capacity(alloc, stage.len())?;
+    for command in commands {
+        deeds.push(Deed::of(command))?;
+        if let Some((id, more)) = command.run() {
+            add_run(&mut deeds, id, sets.get(..more).unwrap_or(&[]))?;
+            sets = sets.get(more..).unwrap_or(&[]);
+        }
+    }
+    Ok(deeds)
 }
 
 // Puts the commands of a stage behind others, with the outcomes of their report.
 fn add_done(done: &mut Vec<Done>, stages: &[Stage; 1], report: &Report) -> Result<(), AllocError> {
-    let mut commands = stages[0].commands().iter();
+    let deeds = deeds_of(*done.allocator(), &stages[0])?;
+    let mut next = deeds.iter();
     for outcome in report.iter() {
-        let deed = deed_of(commands.next());
+        let deed = next.next().copied().flatten();
         done.push(Done { deed, outcome })?;
     }
     Ok(())

@@ -70,7 +70,7 @@ impl Deed {
                 holder: *holder,
                 id: *id,
             })),
-            Recorded::Set(holder, id, _) => Some(Deed::Set(Had {
+            Recorded::Set(_, holder, id, _) => Some(Deed::Set(Had {
                 holder: *holder,
                 id: *id,
             })),

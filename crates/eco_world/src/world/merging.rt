@@ -1,20 +1,17 @@
 //! What stages recorded is done.
-ghost use Rattle.std.specs.Prelude.{◌≡◌, ◌+◌, ◌≤◌, ◌<◌, ◌&&◌, ◌∷◌, [], IfSome, IsFalse, IsTrue, nat_lt, length, take};
+ghost use Rattle.std.specs.Prelude.{◌≡◌, ◌+◌, ◌≤◌, ◌<◌, ◌&&◌, ◌∷◌, [], IfSome, nat_lt, length, map, take};
 ghost use Rattle.eco_ids.specs.Births.{Admits, MakesAlive, may_admit, may_make_alive};
 ghost use Rattle.eco_ids.specs.Outcome.{Meets};
-ghost use Rattle.eco_ids.specs.Run.{Applies, Set, may_want};
-ghost use Rattle.eco_ids.specs.World.{entities, padded, OnEntities};
+ghost use Rattle.eco_ids.specs.Run.{Applies, may_want};
+ghost use Rattle.eco_ids.specs.World.{entities, OnEntities};
 ghost use Rattle.eco_stages.specs.Merging.{all_commands, AreDone};
-ghost use Rattle.eco_stages.specs.Recorded.{commands_of, recorded_command};
+ghost use Rattle.eco_stages.specs.Recorded.{recorded_command, set_of_run};
 ghost use Rattle.eco_world.specs.Merging.{Merges, may_merge};
 ghost use Rattle.eco_world.specs.Setting.{IsSettable};
 
-use crate::settable::Settable;
 use crate::world::World;
 use eco_ids::{Entity, Id, Refusal, Value};
-use eco_stages::{
-    KEPT_FIELDS, MergeTarget, Outcomes, Recorded, Report, Stage, apply_stages, room_for,
-};
+use eco_stages::{MergeTarget, Outcomes, Recorded, Report, RunSet, Stage, apply_stages, room_for};
 
 impl World {
     /// Makes `admitted` more indices known, at generation 0, and then does the commands of all stages, stage by stage and each
@@ -47,81 +44,28 @@ impl World {
         self.store.admit(count)
     }
 
-    // The set to a value of few fields is done, and its outcome appended.
+    // A set of a run is done, and its outcome appended.
     #[inline(always)]
-    fn set_few(
+    fn set_in_run(
         &mut self,
-        known: &mut Option<Settable>,
+        known: &mut Option<u8>,
         near: &mut usize,
-        entity: Entity,
         id: Id,
-        fields: &[i64; KEPT_FIELDS],
+        set: &RunSet,
         outcomes: &mut Outcomes,
     )
-        requires known { IfSome known.old (λ s. IsSettable self.old s.id s.arity) }
+        requires known { IfSome known.old (IsSettable self.old id) }
         requires room { length outcomes.old.outcomes < outcomes.old.room }
-        ensures done { AreDone self.old (Set entity id (padded fields.now) ∷ [])
-            outcomes.old outcomes.new self.new }
-        ensures known { IfSome known.new (λ s. IsSettable self.new s.id s.arity) }
+        ensures done { AreDone self.old (set_of_run id set.now ∷ []) outcomes.old outcomes.new self.new }
+        ensures known { IfSome known.new (IsSettable self.new id) }
     {
         eco_stages::laws::commands_are_done_in_turn();
-        if self.rewrite(known, entity, id, Value::of(*fields), near) {
+        if self.rewrite(*known, set.entity, id, Value::of(set.fields), near) {
             outcomes.push(Ok(()));
             return;
         }
-        let outcome = self.set_apart(known, entity, id, fields);
+        let outcome = self.set_apart(known, id, set);
         outcomes.push(outcome);
-    }
-
-    // The set to a value of more fields is done, and its outcome appended. Apart, so that what these keep takes no room where
-    // values have few.
-    #[inline(never)]
-    fn set_wide(
-        &mut self,
-        known: &mut Option<Settable>,
-        entity: Entity,
-        id: Id,
-        value: &Value,
-        outcomes: &mut Outcomes,
-    )
-        requires known { IfSome known.old (λ s. IsSettable self.old s.id s.arity) }
-        requires room { length outcomes.old.outcomes < outcomes.old.room }
-        ensures done { AreDone self.old (Set entity id value.now ∷ []) outcomes.old outcomes.new self.new }
-        ensures known { IfSome known.new (λ s. IsSettable self.new s.id s.arity) }
-    {
-        eco_stages::laws::commands_are_done_in_turn();
-        let outcome = self.set_after(known, entity, id, *value);
-        outcomes.push(outcome);
-    }
-
-    // A set is done, and its outcome appended; another command isn't. The answer is whether it is a set.
-    #[inline(always)]
-    fn set_next(
-        &mut self,
-        known: &mut Option<Settable>,
-        near: &mut usize,
-        command: &Recorded,
-        outcomes: &mut Outcomes,
-    ) -> bool
-        requires known { IfSome known.old (λ s. IsSettable self.old s.id s.arity) }
-        requires room { length outcomes.old.outcomes < outcomes.old.room }
-        ensures done { IsTrue result → AreDone self.old (recorded_command command.now ∷ [])
-            outcomes.old outcomes.new self.new }
-        ensures known { IsTrue result → IfSome known.new (λ s. IsSettable self.new s.id s.arity) }
-        ensures same { IsFalse result → self.new ≡ self.old }
-        ensures none { IsFalse result → outcomes.new ≡ outcomes.old }
-    {
-        match command {
-            Recorded::Set(entity, id, fields) => {
-                self.set_few(known, near, *entity, *id, fields, outcomes);
-                true
-            }
-            Recorded::SetWide(entity, id, value) => {
-                self.set_wide(known, *entity, *id, value, outcomes);
-                true
-            }
-            _ => false,
-        }
     }
 
     // This very handle lives, without name and ids.
@@ -144,7 +88,7 @@ impl World {
             Recorded::Create(entity) => self.make_alive(*entity),
             Recorded::Add(entity, id) => self.add(*entity, *id),
             Recorded::Remove(entity, id) => self.remove(*entity, *id),
-            Recorded::Set(entity, id, fields) => self.set(*entity, *id, Value::of(*fields)),
+            Recorded::Set(_, entity, id, fields) => self.set(*entity, *id, Value::of(*fields)),
             Recorded::SetWide(entity, id, value) => self.set(*entity, *id, ***value),
             Recorded::Clear(entity) => self.clear(*entity),
             Recorded::Rename(entity, name) => self.rename(*entity, name.as_deref()),
@@ -168,17 +112,12 @@ impl MergeTarget for World {
 
     // Apart, so that what sets keep takes no room where others are done.
     #[inline(never)]
-    fn apply_sets(&mut self, commands: &[Recorded], outcomes: &mut Outcomes) -> usize {
+    fn apply_sets(&mut self, id: Id, sets: &[RunSet], outcomes: &mut Outcomes) {
         eco_stages::laws::commands_are_done_in_turn();
         let mut known = None;
         let mut near = 0;
-        let mut count = 0;
-        while count < commands.len() {
-            if !self.set_next(&mut known, &mut near, &commands[count], outcomes) {
-                return count;
-            }
-            count += 1;
+        for set in sets {
+            self.set_in_run(&mut known, &mut near, id, set, outcomes);
         }
-        count
     }
 }

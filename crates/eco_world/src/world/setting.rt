@@ -6,26 +6,25 @@ ghost use Rattle.eco_ids.specs.World.{padded};
 ghost use Rattle.eco_world.specs.Actor.{MaySet, MayNotSet};
 ghost use Rattle.eco_world.specs.Setting.{IsSettable, IsUnsettable};
 
-use crate::settable::Settable;
 use crate::world::World;
 use crate::world::changes::is_zero_past;
 use eco_ids::{Entity, Id, Refusal, Value};
-use eco_stages::KEPT_FIELDS;
+use eco_stages::RunSet;
 
 impl World {
-    // What `set` does. Of an id that is known nothing is asked. The id of a value that was written is known then.
+    // What `set` does. Nothing is asked of an id whose number of fields is known. It is known where a value was written.
     #[inline(always)]
     pub(crate) fn set_after(
         &mut self,
-        known: &mut Option<Settable>,
+        known: &mut Option<u8>,
         entity: Entity,
         id: Id,
         value: Value,
     ) -> Result<(), Refusal>
-        requires { IfSome known.old (λ s. IsSettable self.old s.id s.arity) }
+        requires { IfSome known.old (IsSettable self.old id) }
         ensures met { Meets (Sets self.old entity id value) (may_set self.old entity id value)
             self.old result self.new }
-        ensures known { IfSome known.new (λ s. IsSettable self.new s.id s.arity) }
+        ensures known { IfSome known.new (IsSettable self.new id) }
     {
         eco_ids::laws::steps_keep_lawful();
         self.is_lawful();
@@ -39,21 +38,21 @@ impl World {
         self.set_absent(entity, absent, &first)
     }
 
-    // What `set` does at the id that is known, where the entity has it. The answer is whether it is done; else nothing changes. It
-    // makes no refusal, so that most sets of a merge keep no room for one.
+    // What `set` does where the number of fields is known and the entity has the id. The answer is whether it is done; else nothing
+    // changes. It makes no refusal, so that most sets of a run keep no room for one.
     #[inline(always)]
     pub(crate) fn rewrite(
         &mut self,
-        known: &Option<Settable>,
+        known: Option<u8>,
         entity: Entity,
         id: Id,
         value: Value,
         near: &mut usize,
     ) -> bool
-        requires { IfSome known.now (λ s. IsSettable self.old s.id s.arity) }
+        requires { IfSome known (IsSettable self.old id) }
         ensures met { IsTrue result → Meets (Sets self.old entity id value) (may_set self.old entity id value)
             self.old (Ok tt) self.new }
-        ensures known { IfSome known.now (λ s. IsSettable self.new s.id s.arity) }
+        ensures known { IfSome known (IsSettable self.new id) }
         ensures same { IsFalse result → self.new ≡ self.old }
     {
         eco_ids::laws::steps_keep_lawful();
@@ -64,51 +63,50 @@ impl World {
         self.write(entity, id, value, near)
     }
 
-    // Whether this is the id that is known, and nothing stands against the value there.
+    // Whether the number of fields is known, and nothing stands against the value.
     #[inline(always)]
-    fn may_rewrite(&self, known: &Option<Settable>, entity: Entity, id: Id, value: Value) -> bool
-        requires { IfSome known.now (λ s. IsSettable self.now s.id s.arity) }
+    fn may_rewrite(&self, known: Option<u8>, entity: Entity, id: Id, value: Value) -> bool
+        requires { IfSome known (IsSettable self.now id) }
         ensures { IsTrue result → MaySet self.now entity id value }
     {
-        let Some(settable) = known else {
+        let Some(arity) = known else {
             return false;
         };
-        if !settable.id.is(id) || !self.is_alive(entity) || self.is_reserved(entity, id) {
+        if !self.is_alive(entity) || self.is_reserved(entity, id) {
             return false;
         }
-        is_zero_past(value, settable.arity)
+        is_zero_past(value, arity)
     }
 
-    // What `set_after` does with a value of these fields, apart.
+    // What `set_after` does with a set of a run, apart.
     #[inline(never)]
     pub(crate) fn set_apart(
         &mut self,
-        known: &mut Option<Settable>,
-        entity: Entity,
+        known: &mut Option<u8>,
         id: Id,
-        fields: &[i64; KEPT_FIELDS],
+        set: &RunSet,
     ) -> Result<(), Refusal>
-        requires { IfSome known.old (λ s. IsSettable self.old s.id s.arity) }
-        ensures met { Meets (Sets self.old entity id (padded fields.now))
-            (may_set self.old entity id (padded fields.now)) self.old result self.new }
-        ensures known { IfSome known.new (λ s. IsSettable self.new s.id s.arity) }
+        requires { IfSome known.old (IsSettable self.old id) }
+        ensures met { Meets (Sets self.old set.now.entity id (padded set.now.fields))
+            (may_set self.old set.now.entity id (padded set.now.fields)) self.old result self.new }
+        ensures known { IfSome known.new (IsSettable self.new id) }
     {
-        self.set_after(known, entity, id, Value::of(*fields))
+        self.set_after(known, set.entity, id, Value::of(set.fields))
     }
 
     // Whether the entity may have this value at the id.
     #[inline(always)]
     fn check_set(
         &self,
-        known: &mut Option<Settable>,
+        known: &mut Option<u8>,
         entity: Entity,
         id: Id,
         value: Value,
     ) -> Result<(), Refusal>
-        requires { IfSome known.old (λ s. IsSettable self.now s.id s.arity) }
+        requires { IfSome known.old (IsSettable self.now id) }
         ensures ok { OnOk result (MaySet self.now entity id value) }
         ensures err { IfErr result (MayNotSet self.now entity id value) }
-        ensures known { IfSome known.new (λ s. IsSettable self.now s.id s.arity) }
+        ensures known { IfSome known.new (IsSettable self.now id) }
     {
         self.check_holder(entity, id)?;
         let arity = self.arity_after(known, id)?;
@@ -118,19 +116,19 @@ impl World {
         Ok(())
     }
 
-    // How many fields the values of the id have. It is asked for only where it is not the one that is known.
+    // How many fields the values of the id have. It is asked for only where it is not known.
     #[inline(always)]
-    fn arity_after(&self, known: &mut Option<Settable>, id: Id) -> Result<u8, Refusal>
-        requires { IfSome known.old (λ s. IsSettable self.now s.id s.arity) }
+    fn arity_after(&self, known: &mut Option<u8>, id: Id) -> Result<u8, Refusal>
+        requires { IfSome known.old (IsSettable self.now id) }
         ensures ok { IfOk result (IsSettable self.now id) }
         ensures err { IfErr result (IsUnsettable self.now id) }
-        ensures known { IfSome known.new (λ s. IsSettable self.now s.id s.arity) }
+        ensures known { IfSome known.new (IsSettable self.now id) }
     {
         match *known {
-            Some(settable) if settable.id.is(id) => Ok(settable.arity),
-            _ => {
+            Some(arity) => Ok(arity),
+            None => {
                 let arity = self.settable(id)?;
-                *known = Some(Settable { id, arity });
+                *known = Some(arity);
                 Ok(arity)
             }
         }

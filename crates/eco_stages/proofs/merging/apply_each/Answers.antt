@@ -1,37 +1,93 @@
-use Rattle.eco_stages.proofs.Common.{drop, take, ap, ◌∙◌, subst, length-drop, length-map, length-take-le, map-append, take_rest, arith, recorded_command}
+use Rattle.std.proofs.Common.{rules}
+use Rattle.eco_stages.proofs.Common.{◌≡◌, ◌≤◌, ◌+◌, ◌-◌, ap, drop, length, length-drop, length-map, length-take-le, refl, subst, take, take_rest, ◌∙◌, arith}
 use Rattle.eco_stages.proofs.Common.{commands_of, AreDone}
-use Rattle.std.proofs.Math.Seq.{take-add}
+use Rattle.std.specs.Prelude.{◌∷◌, [], map}
 use Rattle.eco_stages.proofs.Merges.{both_done, grown, none_done}
+use Rattle.eco_stages.proofs.Runs.{count, one_more, sets_more, sets_within}
+use Rattle.eco_stages.specs.Recorded.{commands_in, part_of, sets_in}
 use Rattle.eco_stages.proofs.merging.apply_each.Goals as goal
 
-pub loop-done-init : goal.loop-done-init
-loop-done-init g c = record { within = omega arith; are_done = none_done (g.W.MergeTarget.world c.args.world.now) c.args.outcomes.now }
+pub loop-command-init : goal.loop-command-init
+loop-command-init g c =
+    record { within = omega arith; sets = refl; are_done = none_done (g.W.MergeTarget.world c.args.world.now) c.args.outcomes.now }
+
+pub apply_next-done-requires-clause-sets : goal.apply_next-done-requires-clause-sets
+apply_next-done-requires-clause-sets g c =
+    let i = c.loop-command.command-index in
+    let cs = c.args.commands.now in
+    let sets = c.args.sets.now in
+    let k = c.loop-command.done in
+    let was = c.loop-command.invariant in
+    let more = sets_more cs i c.command-item.result c.loop-command-test.true c.command-item.is in
+    let all = sets_within cs i c.command-item.result c.loop-command-test.true c.command-item.is in
+    omega (arith, more, all, was.sets, was.within, c.requires.sets, length-drop k sets, ap length (take_rest sets k))
 
 pub apply_next-done-requires-clause-room : goal.apply_next-done-requires-clause-room
 apply_next-done-requires-clause-room g c =
-    let i = c.loop-done.done in
+    let i = c.loop-command.command-index in
     let cs = c.args.commands.now in
-    let was = c.loop-done.invariant.are_done in
-    let more = grown (g.W.MergeTarget.world c.args.world.now) (g.W.MergeTarget.world c.loop-done.world) (commands_of (take i cs)) c.args.outcomes.now
-    c.loop-done.outcomes was in
-    omega (arith, more, was.room, length-map (take i cs) recorded_command, length-take-le i cs c.loop-done.invariant.within, length-drop i cs, c.requires)
+    let sets = c.args.sets.now in
+    let r = c.command-item.result in
+    let less = c.loop-command-test.true in
+    let was = c.loop-command.invariant in
+    let so_far = map part_of (take i cs) in
+    let new = grown (g.W.MergeTarget.world c.args.world.now) (g.W.MergeTarget.world c.loop-command.world) (commands_of (take i cs) sets)
+    c.args.outcomes.now c.loop-command.outcomes was.are_done in
+    let all : sets_in (map part_of cs) ≤ length sets = omega (arith, c.requires.sets) in
+    let some : sets_in so_far ≤ length sets = omega (arith, was.sets, was.within) in
+    omega (
+      arith,
+      new,
+      was.are_done.room,
+      count so_far sets some,
+      count (map part_of cs) sets all,
+      length-map (take i cs) part_of,
+      length-map cs part_of,
+      length-take-le i cs (omega (arith, less)),
+      sets_more cs i r less c.command-item.is,
+      sets_within cs i r less c.command-item.is,
+      less,
+      c.requires.room,
+    )
 
-pub loop-done-preserved : goal.loop-done-preserved
-loop-done-preserved g c =
-    let i = c.loop-done.done in
-    let n = c.apply_next-done.result in
+pub overflow_add-done : goal.overflow_add-done
+overflow_add-done g c =
+    let i = c.loop-command.command-index in
     let cs = c.args.commands.now in
-    let was = c.loop-done.invariant in
-    let w = g.W.MergeTarget.world c.args.world.now in
-    let mid = g.W.MergeTarget.world c.loop-done.world in
+    let r = c.command-item.result in
+    let less = c.loop-command-test.true in
+    let sum : c.loop-command.done + c.apply_next-done.result ≤ length c.args.sets.now =
+    omega (
+      arith,
+      c.apply_next-done.ensures.count,
+      sets_more cs i r less c.command-item.is,
+      sets_within cs i r less c.command-item.is,
+      c.loop-command.invariant.sets,
+      c.requires.sets,
+    ) in
+    search (rules, sum)
+
+pub loop-command-preserved : goal.loop-command-preserved
+loop-command-preserved g c =
+    let i = c.loop-command.command-index in
+    let cs = c.args.commands.now in
+    let sets = c.args.sets.now in
+    let r = c.command-item.result in
+    let less = c.loop-command-test.true in
+    let was = c.loop-command.invariant in
+    let k = c.loop-command.done in
+    let before = c.loop-command.outcomes in
+    let after = c.apply_next-done.new.outcomes in
+    let mid = g.W.MergeTarget.world c.loop-command.world in
     let new = g.W.MergeTarget.world c.apply_next-done.new.world in
-    let more = ap commands_of (take-add i n cs) ∙ map-append recorded_command (take i cs) (take n (drop i cs)) in
+    let rest : take (length sets - k) (drop k sets) ≡ drop (sets_in (map part_of (take i cs))) sets = take_rest sets k ∙ ap (λ n. drop n sets) was.sets in
+    let done = subst (λ ss. AreDone mid (commands_in (part_of r ∷ []) ss) before after new) rest c.apply_next-done.ensures.done in
+    let more = sets_more cs i r less c.command-item.is in
     record {
-      within = omega (arith, c.apply_next-done.ensures.within, length-drop i cs, was.within);
+      within = omega (arith, c.apply_next-done.ensures.count, more, was.sets, sets_within cs i r less c.command-item.is, c.requires.sets);
+      sets = omega (arith, c.apply_next-done.ensures.count, more, was.sets);
       are_done =
-          rw more
-          (both_done c.runs_keep_lawful.ensures.compose w mid new (commands_of (take i cs)) (commands_of (take n (drop i cs)))
-          c.args.outcomes.now c.loop-done.outcomes c.apply_next-done.new.outcomes was.are_done
-          (subst (λ rest. AreDone mid (commands_of (take n rest)) c.loop-done.outcomes c.apply_next-done.new.outcomes new)
-          (take_rest cs i) c.apply_next-done.ensures.done));
+          rw (one_more cs i r less c.command-item.is sets)
+          (both_done c.runs_keep_lawful.ensures.compose (g.W.MergeTarget.world c.args.world.now) mid new (commands_of (take i cs) sets)
+          (commands_in (part_of r ∷ []) (drop (sets_in (map part_of (take i cs))) sets)) c.args.outcomes.now before after was.are_done done);
     }

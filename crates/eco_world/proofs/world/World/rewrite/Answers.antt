@@ -10,4 +10,4 @@ write-requires-clause-lawful c =
 
 pub returns-clause-known : goal.returns-clause-known
 returns-clause-known c =
-    known_kept c.args.self.now c.args.entity c.args.id c.args.value c.write.new.self c.args.known.now c.requires c.write.result c.write.ensures.written
+    known_kept c.args.self.now c.args.entity c.args.id c.args.value c.write.new.self c.args.known c.requires c.write.result c.write.ensures.written

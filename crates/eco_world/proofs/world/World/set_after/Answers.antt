@@ -10,7 +10,7 @@ write-requires-clause-lawful c =
 
 pub returns-then-write-clause-known : goal.returns-then-write-clause-known
 returns-then-write-clause-known c =
-    subst (λ w. IfSome c.check_set.new.known (λ s. IsSettable w s.id s.arity)) (sym c.if-write.ensures.written)
+    subst (λ w. IfSome c.check_set.new.known (IsSettable w c.args.id)) (sym c.if-write.ensures.written)
     (known_still c.args.self.now c.args.entity c.args.id c.args.value c.check_set.new.known c.check_set.ensures.known)
 
 pub set_absent-requires-clause-may : goal.set_absent-requires-clause-may

@@ -1,40 +1,43 @@
-use Rattle.eco_world.proofs.Common.{◌++◌, ◌∷◌, [], take, sym, ap, ◌∙◌, length-map, length-take-le, map_more, arith, recorded_command, commands_of}
+use Rattle.eco_world.proofs.Common.{◌+◌, ◌∷◌, [], take, get_or, length-map, length-take-le, map_more, arith, AreDone}
+use Rattle.std.specs.Prelude.{map}
+use Rattle.eco_stages.specs.Recorded.{set_of_run}
+use Rattle.eco_stages.specs.declared.run_set.RunSet.{RunSet}
 use Rattle.eco_world.proofs.world.merging.WorldMergeTarget.apply_sets.Goals as goal
 
-pub loop-count-init : goal.loop-count-init
-loop-count-init c = record { within = omega arith; are_done = c.commands_are_done_in_turn.ensures.none c.args.self.now c.args.outcomes.now; known = tt }
+pub loop-set-init : goal.loop-set-init
+loop-set-init c = record { are_done = c.commands_are_done_in_turn.ensures.none c.args.self.now c.args.outcomes.now; known = tt }
 
-pub set_next-requires-clause-room : goal.set_next-requires-clause-room
-set_next-requires-clause-room c =
+pub set_in_run-requires-clause-room : goal.set_in_run-requires-clause-room
+set_in_run-requires-clause-room c =
     let laws = c.commands_are_done_in_turn.ensures in
-    let i = c.loop-count.count in
-    let cs = c.args.commands.now in
-    let was = c.loop-count.invariant.are_done in
-    let more = laws.counted c.args.self.now c.loop-count.self (commands_of (take i cs)) c.args.outcomes.now c.loop-count.outcomes was in
+    let i = c.loop-set.set-index in
+    let sets = c.args.sets.now in
+    let run = set_of_run c.args.id in
+    let was = c.loop-set.invariant.are_done in
+    let more = laws.counted c.args.self.now c.loop-set.self (map run (take i sets)) c.args.outcomes.now c.loop-set.outcomes was in
     omega (
       arith,
       more,
       was.room,
-      length-map (take i cs) recorded_command,
-      length-take-le i cs c.loop-count.invariant.within,
-      c.loop-count-test.true,
+      length-map (take i sets) run,
+      length-take-le i sets (omega (arith, c.loop-set-test.true)),
+      c.loop-set-test.true,
       c.requires,
     )
 
-pub loop-count-preserved : goal.loop-count-preserved
-loop-count-preserved c =
-    let laws = c.commands_are_done_in_turn.ensures in
-    let i = c.loop-count.count in
-    let cs = c.args.commands.now in
-    let was = c.loop-count.invariant in
-    let next = c.index-commands-count.result in
-    let more = map_more recorded_command cs i next c.loop-count-test.true
-    ∙ ap (λ y. commands_of (take i cs) ++ recorded_command y ∷ []) (sym c.index-commands-count.is) in
-    record {
-      within = omega (arith, c.loop-count-test.true);
-      are_done =
-          rw more
-          (laws.both c.args.self.now c.loop-count.self c.set_next.new.self (commands_of (take i cs)) (recorded_command next ∷ [])
-          c.args.outcomes.now c.loop-count.outcomes c.set_next.new.outcomes was.are_done (c.set_next.ensures.done c.if-not-set_next.false));
-      known = c.set_next.ensures.known c.if-not-set_next.false;
-    }
+-- so many sets, and one more
+one_more : (c : goal.After-set_in_run) (d : RunSet)
+    → AreDone c.loop-set.self (set_of_run c.args.id (get_or c.args.sets.now c.loop-set.set-index d) ∷ []) c.loop-set.outcomes
+    c.set_in_run.new.outcomes c.set_in_run.new.self
+    → AreDone c.args.self.now (map (set_of_run c.args.id) (take (c.loop-set.set-index + 1) c.args.sets.now)) c.args.outcomes.now
+    c.set_in_run.new.outcomes c.set_in_run.new.self
+one_more c d done =
+    let run = set_of_run c.args.id in
+    let i = c.loop-set.set-index in
+    let sets = c.args.sets.now in
+    rw (map_more run sets i d c.loop-set-test.true)
+    (c.commands_are_done_in_turn.ensures.both c.args.self.now c.loop-set.self c.set_in_run.new.self (map run (take i sets))
+    (run (get_or sets i d) ∷ []) c.args.outcomes.now c.loop-set.outcomes c.set_in_run.new.outcomes c.loop-set.invariant.are_done done)
+
+pub loop-set-preserved : goal.loop-set-preserved
+loop-set-preserved c = record { are_done = one_more c _ c.set_in_run.ensures.done; known = c.set_in_run.ensures.known }

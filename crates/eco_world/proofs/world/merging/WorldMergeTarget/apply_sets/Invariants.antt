@@ -1,12 +1,10 @@
-use Rattle.eco_world.proofs.Common.{◌-◌, ◌≤◌, length, take, IfSome, commands_of, AreDone, IsSettable}
+use Rattle.eco_world.proofs.Common.{take, IfSome, AreDone, IsSettable}
+use Rattle.std.specs.Prelude.{map}
+use Rattle.eco_stages.specs.Recorded.{set_of_run}
 use Rattle.eco_world.proofs.world.merging.WorldMergeTarget.apply_sets.Given as goal
 
-abbrev pub invariant-loop-count : goal.invariant-loop-count
-invariant-loop-count l = record {
-  within : l.count ≤ length l.commands;
-  are_done : AreDone l.initial.self (commands_of (take l.count l.commands)) l.initial.outcomes l.outcomes l.self;
-  known : IfSome l.known (λ s. IsSettable l.self s.id s.arity);
+abbrev pub invariant-loop-set : goal.invariant-loop-set
+invariant-loop-set l = record {
+  are_done : AreDone l.initial.self (map (set_of_run l.id) (take l.set-index l.sets)) l.initial.outcomes l.outcomes l.self;
+  known : IfSome l.known (IsSettable l.self l.id);
 }
-
-abbrev pub decreases-loop-count : goal.decreases-loop-count
-decreases-loop-count l = length l.commands - l.count

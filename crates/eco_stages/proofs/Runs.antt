@@ -12,7 +12,8 @@ use Rattle.eco_ids.specs.declared.entity.Entity.{Entity}
 use Rattle.eco_ids.specs.declared.id.Id.{Id}
 use Rattle.eco_ids.specs.World.{padded}
 use Rattle.eco_ids.specs.declared.value.Value.{Value}
-use Rattle.eco_stages.specs.Recorded.{IsRunOf, OwnNothing, commands_in, commands_of, more_of, owns, part_of, recorded_command, set_like, set_of_run, sets_in}
+use Rattle.eco_stages.specs.Recorded.{IsOpenRun, OwnNothing, counted_command, more_of, owns, recorded_command}
+use Rattle.eco_stages.specs.Recorded.{commands_in, commands_of, set_like, set_of_run, sets_in}
 use Rattle.eco_stages.specs.declared.recorded.Recorded.{Recorded}
 use Rattle.eco_stages.specs.declared.run_set.RunSet.{RunSet}
 
@@ -102,29 +103,29 @@ count (p ∷ ps) sets fit =
 
 module _ (cs : List Recorded) (i : ℕ) (r : Recorded) (less : i < length cs) (is : r ≡ get_or cs i r) where
   -- so many commands, and one more
-  pub parts_more : map part_of (take (i + 1) cs) ≡ map part_of (take i cs) ++ part_of r ∷ []
+  pub parts_more : map counted_command (take (i + 1) cs) ≡ map counted_command (take i cs) ++ counted_command r ∷ []
   parts_more =
-      ap (map part_of) (take_more cs i r less) ∙ map-append part_of (take i cs) (get_or cs i r ∷ [])
-      ∙ ap (λ x. map part_of (take i cs) ++ part_of x ∷ []) (sym is)
+      ap (map counted_command) (take_more cs i r less) ∙ map-append counted_command (take i cs) (get_or cs i r ∷ [])
+      ∙ ap (λ x. map counted_command (take i cs) ++ counted_command x ∷ []) (sym is)
 
   -- what they stand for
   pub one_more : (sets : List RunSet) → commands_of (take (i + 1) cs) sets
-      ≡ commands_of (take i cs) sets ++ commands_in (part_of r ∷ []) (drop (sets_in (map part_of (take i cs))) sets)
-  one_more sets = ap (λ ps. commands_in ps sets) parts_more ∙ commands_append (map part_of (take i cs)) (part_of r ∷ []) sets
+      ≡ commands_of (take i cs) sets ++ commands_in (counted_command r ∷ []) (drop (sets_in (map counted_command (take i cs))) sets)
+  one_more sets = ap (λ ps. commands_in ps sets) parts_more ∙ commands_append (map counted_command (take i cs)) (counted_command r ∷ []) sets
 
   -- how many sets those have
-  pub sets_more : sets_in (map part_of (take (i + 1) cs)) ≡ sets_in (map part_of (take i cs)) + more_of r
-  sets_more = omega (arith, ap sets_in parts_more, sets_append (map part_of (take i cs)) (part_of r ∷ []))
+  pub sets_more : sets_in (map counted_command (take (i + 1) cs)) ≡ sets_in (map counted_command (take i cs)) + more_of r
+  sets_more = omega (arith, ap sets_in parts_more, sets_append (map counted_command (take i cs)) (counted_command r ∷ []))
 
   -- all have no fewer
-  pub sets_within : sets_in (map part_of (take (i + 1) cs)) ≤ sets_in (map part_of cs)
+  pub sets_within : sets_in (map counted_command (take (i + 1) cs)) ≤ sets_in (map counted_command cs)
   sets_within =
-      let before = map part_of (take (i + 1) cs) in
-      let rest = map part_of (drop (i + 1) cs) in
+      let before = map counted_command (take (i + 1) cs) in
+      let rest = map counted_command (drop (i + 1) cs) in
       omega (
         arith,
-        ap (λ rs. sets_in (map part_of rs)) (take-append-drop (i + 1) cs),
-        ap sets_in (map-append part_of (take (i + 1) cs) (drop (i + 1) cs)),
+        ap (λ rs. sets_in (map counted_command rs)) (take-append-drop (i + 1) cs),
+        ap sets_in (map-append counted_command (take (i + 1) cs) (drop (i + 1) cs)),
         sets_append before rest,
       )
 
@@ -143,19 +144,20 @@ module _ {X Y : Type 0} (f : X → Y) (xs : List X) (i : ℕ) (last : i + 1 ≡ 
 
 -- the last command has one set more
 pub one_set_more : (items : List Recorded) (sets : List RunSet) (k : ℕ) (old new : Recorded) (i : Id) (s : RunSet)
-    → k + 1 ≡ length items → old ≡ get_or items k old → IsRunOf i old → part_of new ≡ (recorded_command old, more_of old + 1)
-    → sets_in (map part_of items) ≡ length sets
+    → k + 1 ≡ length items → old ≡ get_or items k old → IsOpenRun i old → counted_command new ≡ (recorded_command old, more_of old + 1)
+    → sets_in (map counted_command items) ≡ length sets
     → (commands_of (set items k new) (sets ++ s ∷ []) ≡ commands_of items sets ++ set_of_run i s ∷ [])
-    × (sets_in (map part_of (set items k new)) ≡ length (sets ++ s ∷ []))
+    × (sets_in (map counted_command (set items k new)) ≡ length (sets ++ s ∷ []))
 one_set_more items sets k old new i s last is_old run is_new fit =
-    let before = map part_of (take k items) in
+    let before = map counted_command (take k items) in
     let e = run.1 in
     let v = padded run.2 in
     let one : Command × ℕ = (Set e i v, run.0) in
     let more : Command × ℕ = (Set e i v, run.0 + 1) in
-    let was : map part_of items ≡ before ++ one ∷ [] = ends_in part_of items k last old ∙ ap (λ r. before ++ part_of r ∷ []) (sym is_old ∙ run.3) in
-    let now : map part_of (set items k new) ≡ before ++ more ∷ [] =
-    ends_in_set part_of items k last new ∙ ap (λ p. before ++ p ∷ []) (is_new ∙ ap (λ r. (recorded_command r, more_of r + 1)) run.3) in
+    let was : map counted_command items ≡ before ++ one ∷ [] =
+    ends_in counted_command items k last old ∙ ap (λ r. before ++ counted_command r ∷ []) (sym is_old ∙ run.3) in
+    let now : map counted_command (set items k new) ≡ before ++ more ∷ [] =
+    ends_in_set counted_command items k last new ∙ ap (λ p. before ++ p ∷ []) (is_new ∙ ap (λ r. (recorded_command r, more_of r + 1)) run.3) in
     let fits : sets_in (before ++ one ∷ []) ≡ length sets = sym (ap sets_in was) ∙ fit in (
       ap (λ ps. commands_in ps (sets ++ s ∷ [])) now ∙ lengthened before e i v run.0 sets s fits
           ∙ sym (ap (λ ps. commands_in ps sets ++ set_of_run i s ∷ []) was),
@@ -163,16 +165,16 @@ one_set_more items sets k old new i s last is_old run is_new fit =
     )
 
 -- a command more, which no sets follow
-pub one_apart : (items : List Recorded) (sets : List RunSet) (r : Recorded) (c : Command) → part_of r ≡ (c, 0)
-    → sets_in (map part_of items) ≡ length sets
+pub one_apart : (items : List Recorded) (sets : List RunSet) (r : Recorded) (c : Command) → counted_command r ≡ (c, 0)
+    → sets_in (map counted_command items) ≡ length sets
     → (commands_of (items ++ r ∷ []) sets ≡ commands_of items sets ++ c ∷ [])
-    × (sets_in (map part_of (items ++ r ∷ [])) ≡ length sets)
+    × (sets_in (map counted_command (items ++ r ∷ [])) ≡ length sets)
 one_apart items sets r c is fit =
     let last : Command × ℕ = (c, 0) in
-    let more : map part_of (items ++ r ∷ []) ≡ map part_of items ++ last ∷ [] =
-    map-append part_of items (r ∷ []) ∙ ap (λ p. map part_of items ++ p ∷ []) is in (
-      ap (λ ps. commands_in ps sets) more ∙ apart (map part_of items) c sets,
-      omega (arith, ap sets_in more, sets_append (map part_of items) (last ∷ []), fit),
+    let more : map counted_command (items ++ r ∷ []) ≡ map counted_command items ++ last ∷ [] =
+    map-append counted_command items (r ∷ []) ∙ ap (λ p. map counted_command items ++ p ∷ []) is in (
+      ap (λ ps. commands_in ps sets) more ∙ apart (map counted_command items) c sets,
+      omega (arith, ap sets_in more, sets_append (map counted_command items) (last ∷ []), fit),
     )
 
 -- one more that owns nothing either

@@ -29,8 +29,8 @@ more_of (Set more e i fields) = more
 more_of _ = 0
 
 -- both
-abbrev pub part_of : Recorded → run.Command × ℕ
-part_of c = (recorded_command c, more_of c)
+abbrev pub counted_command : Recorded → run.Command × ℕ
+counted_command c = (recorded_command c, more_of c)
 
 -- the command of a set of a run, whose id this is
 abbrev pub set_of_run : Id → RunSet → run.Command
@@ -53,19 +53,19 @@ sets_in (p ∷ ps) = p.1 + sets_in ps
 
 -- the commands that are recorded
 abbrev pub commands_of : List Recorded → List RunSet → List run.Command
-commands_of commands sets = commands_in (map part_of commands) sets
+commands_of commands sets = commands_in (map counted_command commands) sets
 
 -- a set of the id
 abbrev pub IsSetOf : Id → run.Command → Type 0
 IsSetOf i c = (e : Entity) × (v : Value) × (c ≡ run.Set e i v)
 
 -- one that one set more may follow
-abbrev pub IsRunOf : Id → Recorded → Type 0
-IsRunOf i c = (more : ℕ) × (e : Entity) × (fields : List ℤ) × (c ≡ Set more e i fields) × (more < 65535)
+abbrev pub IsOpenRun : Id → Recorded → Type 0
+IsOpenRun i c = (more : ℕ) × (e : Entity) × (fields : List ℤ) × (c ≡ Set more e i fields) × (more < 65535)
 
 -- of some id
-abbrev pub HasRun : Recorded → Type 0
-HasRun c = (i : Id) × IsRunOf i c
+abbrev pub HasOpenRun : Recorded → Type 0
+HasOpenRun c = (i : Id) × IsOpenRun i c
 
 -- it owns memory
 abbrev pub owns : Recorded → Bool

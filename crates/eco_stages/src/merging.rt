@@ -4,7 +4,7 @@ ghost use Rattle.eco_ids.specs.Outcome.{Meets};
 ghost use Rattle.eco_ids.specs.Run.{Applies, may_want};
 ghost use Rattle.eco_ids.specs.World.{WorldState};
 ghost use Rattle.eco_stages.specs.Merging.{all_commands, has_commands, AreDone};
-ghost use Rattle.eco_stages.specs.Recorded.{commands_in, commands_of, more_of, part_of, recorded_command, set_like, set_of_run, sets_in};
+ghost use Rattle.eco_stages.specs.Recorded.{commands_in, commands_of, more_of, counted_command, recorded_command, set_like, set_of_run, sets_in};
 
 use crate::outcomes::Outcomes;
 use crate::recorded::Recorded;
@@ -22,7 +22,8 @@ pub trait MergeTarget {
     /// follow it are not done.
     fn apply(&mut self, command: &Recorded) -> Result<(), Refusal>
         ensures { Meets (Applies (recorded_command command.now) (world self.old))
-            (may_want (recorded_command command.now) (world self.old)) (world self.old) result (world self.new) };
+            (may_want (recorded_command command.now) (world self.old)) (world self.old)
+            result (world self.new) };
 
     /// Sets of the id are done, one after another, and their outcomes appended: so what is known of the id serves for all of them.
     fn apply_sets(&mut self, id: Id, sets: &[RunSet], outcomes: &mut Outcomes)
@@ -54,7 +55,7 @@ fn apply_next<W: MergeTarget>(
     requires sets { more_of command.now ≤ length sets.now }
     requires room { length outcomes.old.outcomes + (more_of command.now + 1) ≤ outcomes.old.room }
     ensures count { result ≡ more_of command.now }
-    ensures done { AreDone (W.world world.old) (commands_in (part_of command.now ∷ []) sets.now)
+    ensures done { AreDone (W.world world.old) (commands_in (counted_command command.now ∷ []) sets.now)
         outcomes.old outcomes.new (W.world world.new) }
 {
     eco_ids::laws::runs_keep_lawful();
@@ -73,7 +74,7 @@ fn apply_each<W: MergeTarget>(
     sets: &[RunSet],
     outcomes: &mut Outcomes,
 )
-    requires sets { sets_in (map part_of commands.now) ≡ length sets.now }
+    requires sets { sets_in (map counted_command commands.now) ≡ length sets.now }
     requires room { length outcomes.old.outcomes + length (commands_of commands.now sets.now)
         ≤ outcomes.old.room }
     ensures { AreDone (W.world world.old) (commands_of commands.now sets.now) outcomes.old outcomes.new

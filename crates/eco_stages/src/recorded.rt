@@ -7,7 +7,7 @@ ghost use Rattle.eco_ids.specs.Run.{Set};
 ghost use Rattle.eco_ids.specs.World.{padded};
 ghost use Rattle.eco_ids.specs.declared.value.TheConstants.{FIELD_COUNT};
 ghost use Rattle.eco_stages.specs.Commands.{command_of};
-ghost use Rattle.eco_stages.specs.Recorded.{HasRun, IsRunOf, IsSetOf, more_of, owns, part_of, parts_of_set, recorded_command};
+ghost use Rattle.eco_stages.specs.Recorded.{HasOpenRun, IsOpenRun, IsSetOf, more_of, owns, counted_command, parts_of_set, recorded_command};
 
 use crate::command::Command;
 use eco_ids::{Entity, Id, Value};
@@ -18,10 +18,11 @@ use std::mem::ManuallyDrop;
 /// line of the processor's cache.
 pub const KEPT_FIELDS: usize = 4;
 
-/// A command as a stage keeps it, with how many sets of its run follow it: sets of one id, one after another, are a run, and all
-/// but the first of it stand apart, without the id. A value with a field past the first four that isn't 0, as only the second edition of the rules
-/// has them, stands apart too, so that all other commands take no room for such fields. What a command owns is given up by its stage,
-/// which knows whether there is such a command: so a stage without one is emptied at once.
+/// A command as a stage keeps it, with how many sets of its run follow it: sets of one id, one after another, are a run, and
+/// all but the first of it stand apart, without the id. A value with a field past the first four that isn't 0, as only the
+/// second edition of the rules has them, stands apart too, so that all other commands take no room for such fields. What a
+/// command owns is given up by its stage, which knows whether there is such a command: so a stage without one is emptied at
+/// once.
 #[derive(Debug, Drop)]
 pub enum Recorded {
     /// [`Command::Create`].
@@ -30,8 +31,8 @@ pub enum Recorded {
     Add(Entity, Id),
     /// [`Command::Remove`].
     Remove(Entity, Id),
-    /// [`Command::Set`] to the value of these fields, with zeros behind them. So many sets of the same id follow it, which stand in
-    /// the stage's list of these.
+    /// [`Command::Set`] to the value of these fields, with zeros behind them. So many sets of the same id follow it, which
+    /// stand in the stage's list of these.
     Set(u16, Entity, Id, [i64; KEPT_FIELDS]),
     /// [`Command::Set`] to a value of more fields.
     SetWide(Entity, Id, ManuallyDrop<Box<Value>>),
@@ -110,7 +111,7 @@ impl Recorded {
     // A set as it is kept. An `Err` hands it back: no memory is left for a value that stands apart.
     #[inline(always)]
     fn of_set(alloc: Global, entity: Entity, id: Id, value: Value) -> Result<Recorded, Command>
-        ensures ok { IfOk result (λ r. part_of r ≡ (Set entity id value, 0)) }
+        ensures ok { IfOk result (λ r. counted_command r ≡ (Set entity id value, 0)) }
         ensures err { IfErr result (λ refused. refused ≡ Command.Set entity id value) }
     {
         if let Some(fields) = first_fields(value) {
@@ -125,7 +126,7 @@ impl Recorded {
     // The command as it is kept. An `Err` hands it back: no memory is left for a value that stands apart.
     #[inline(always)]
     pub(crate) fn of(alloc: Global, command: Command) -> Result<Recorded, Command>
-        ensures ok { IfOk result (λ r. part_of r ≡ (command_of command, 0)) }
+        ensures ok { IfOk result (λ r. counted_command r ≡ (command_of command, 0)) }
         ensures err { IfErr result (λ refused. refused ≡ command) }
     {
         Ok(match command {
@@ -152,7 +153,8 @@ impl Recorded {
     /// The id of the sets that follow it, and how many those are. None, where there are none.
     #[inline(always)]
     pub fn run(&self) -> Option<(Id, usize)>
-        ensures some { IfSome result (λ r. IsSetOf r.0 (recorded_command self.now) × (r.1 ≡ more_of self.now)) }
+        ensures some { IfSome result (λ r. IsSetOf r.0 (recorded_command self.now)
+            × (r.1 ≡ more_of self.now)) }
         ensures none { IfNone result (more_of self.now ≡ 0) }
     {
         match self {
@@ -164,7 +166,7 @@ impl Recorded {
     // Whether it is a set of the id, and one set more may follow it.
     #[inline(always)]
     pub(crate) fn has_run_of(&self, id: Id) -> bool
-        ensures { IsTrue result → IsRunOf id self.now }
+        ensures { IsTrue result → IsOpenRun id self.now }
     {
         match self {
             Recorded::Set(more, _, own, _) if own.is(id) && *more < u16::MAX => true,
@@ -175,8 +177,8 @@ impl Recorded {
     // One set more follows it.
     #[inline(always)]
     pub(crate) fn lengthen(&mut self)
-        requires { HasRun self.old }
-        ensures part { part_of self.new ≡ (recorded_command self.old, more_of self.old + 1) }
+        requires { HasOpenRun self.old }
+        ensures part { counted_command self.new ≡ (recorded_command self.old, more_of self.old + 1) }
         ensures owns { owns self.new ≡ owns self.old }
     {
         if let Recorded::Set(more, _, _, _) = self {
@@ -207,7 +209,7 @@ impl Recorded {
 
     /// The same command once more, with as many sets behind it. An `Err` comes where no memory is left for what it owns.
     pub(crate) fn try_copy(&self, alloc: Global) -> Result<Recorded, AllocError>
-        ensures { IfOk result (λ copy. part_of copy ≡ part_of self.now) }
+        ensures { IfOk result (λ copy. counted_command copy ≡ counted_command self.now) }
     {
         Ok(match self {
             Recorded::Create(entity) => Recorded::Create(*entity),

@@ -2,7 +2,7 @@
 ghost use Rattle.std.specs.Prelude.{◌≡◌, ◌==◌, ◌+◌, ◌<◌, ◌≤◌, ◌++◌, ◌∷◌, [], IfErr, IsFalse, IsTrue, OnErr, OnOk, length, map, take, vec_capacity, vec_len};
 ghost use Rattle.eco_ids.specs.Run.{Set};
 ghost use Rattle.eco_stages.specs.Commands.{command_of};
-ghost use Rattle.eco_stages.specs.Recorded.{OwnNothing, commands_of, part_of, sets_in};
+ghost use Rattle.eco_stages.specs.Recorded.{OwnNothing, commands_of, counted_command, sets_in};
 
 use crate::command::Command;
 use crate::recorded::Recorded;
@@ -50,7 +50,7 @@ fn give_up_past(commands: &mut Vec<Recorded>, count: usize)
 impl Model for Stage {
     ghost use Rattle.std.specs.Prelude.{◌≡◌, List, length, map};
     ghost use Rattle.eco_ids.specs.Run.{Command};
-    ghost use Rattle.eco_stages.specs.Recorded.{OwnNothing, commands_of, part_of, sets_in};
+    ghost use Rattle.eco_stages.specs.Recorded.{OwnNothing, commands_of, counted_command, sets_in};
 
     ghost Value = { List Command };
 
@@ -58,7 +58,7 @@ impl Model for Stage {
 
     ghost invariant = { λ s. record {
       owners : OwnNothing s.has_owners s.commands.items;
-      sets : sets_in (map part_of s.commands.items) ≡ length s.sets.items;
+      sets : sets_in (map counted_command s.commands.items) ≡ length s.sets.items;
     } };
 }
 
@@ -105,8 +105,8 @@ impl Stage {
         Ok(())
     }
 
-    // The set comes last in the run of the last command, where that is a set of the same id and there is room. The answer is whether
-    // it does; else the stage is as it was.
+    // The set comes last in the run of the last command, where that is a set of the same id and there is room. The answer is
+    // whether it does; else the stage is as it was.
     #[inline(always)]
     fn record_in_run(&mut self, entity: Entity, id: Id, value: Value) -> bool
         ensures yes { IsTrue result → self.new ≡ self.old ++ Set entity id value ∷ [] }
@@ -129,7 +129,7 @@ impl Stage {
     /// The commands as they are kept, in their order, and the sets of their runs.
     pub fn recorded(&self) -> (&[Recorded], &[RunSet])
         ensures all { commands_of result.0.now result.1.now ≡ self.now }
-        ensures sets { sets_in (map part_of result.0.now) ≡ length result.1.now }
+        ensures sets { sets_in (map counted_command result.0.now) ≡ length result.1.now }
     {
         (self.commands.as_slice(), self.sets.as_slice())
     }
@@ -209,8 +209,8 @@ fn push_copies(
 ) -> Result<(), AllocError>
     requires room { vec_len list.old + length commands.now ≤ vec_capacity list.old }
     requires owners { OwnNothing has_owners.old list.old.items }
-    ensures ok { OnOk result (map part_of list.new.items
-        ≡ map part_of list.old.items ++ map part_of commands.now) }
+    ensures ok { OnOk result (map counted_command list.new.items
+        ≡ map counted_command list.old.items ++ map counted_command commands.now) }
     ensures err { OnErr result (take (vec_len list.old) list.new.items ≡ list.old.items) }
     ensures owners { OwnNothing has_owners.new list.new.items }
 {

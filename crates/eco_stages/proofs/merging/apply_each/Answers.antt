@@ -4,7 +4,7 @@ use Rattle.eco_stages.proofs.Common.{commands_of, AreDone}
 use Rattle.std.specs.Prelude.{◌∷◌, [], map}
 use Rattle.eco_stages.proofs.Merges.{both_done, grown, none_done}
 use Rattle.eco_stages.proofs.Runs.{count, one_more, sets_more, sets_within}
-use Rattle.eco_stages.specs.Recorded.{commands_in, part_of, sets_in}
+use Rattle.eco_stages.specs.Recorded.{commands_in, counted_command, sets_in}
 use Rattle.eco_stages.proofs.merging.apply_each.Goals as goal
 
 pub loop-command-init : goal.loop-command-init
@@ -30,19 +30,19 @@ apply_next-done-requires-clause-room g c =
     let r = c.command-item.result in
     let less = c.loop-command-test.true in
     let was = c.loop-command.invariant in
-    let so_far = map part_of (take i cs) in
+    let so_far = map counted_command (take i cs) in
     let new = grown (g.W.MergeTarget.world c.args.world.now) (g.W.MergeTarget.world c.loop-command.world) (commands_of (take i cs) sets)
     c.args.outcomes.now c.loop-command.outcomes was.are_done in
-    let all : sets_in (map part_of cs) ≤ length sets = omega (arith, c.requires.sets) in
+    let all : sets_in (map counted_command cs) ≤ length sets = omega (arith, c.requires.sets) in
     let some : sets_in so_far ≤ length sets = omega (arith, was.sets, was.within) in
     omega (
       arith,
       new,
       was.are_done.room,
       count so_far sets some,
-      count (map part_of cs) sets all,
-      length-map (take i cs) part_of,
-      length-map cs part_of,
+      count (map counted_command cs) sets all,
+      length-map (take i cs) counted_command,
+      length-map cs counted_command,
       length-take-le i cs (omega (arith, less)),
       sets_more cs i r less c.command-item.is,
       sets_within cs i r less c.command-item.is,
@@ -80,8 +80,9 @@ loop-command-preserved g c =
     let after = c.apply_next-done.new.outcomes in
     let mid = g.W.MergeTarget.world c.loop-command.world in
     let new = g.W.MergeTarget.world c.apply_next-done.new.world in
-    let rest : take (length sets - k) (drop k sets) ≡ drop (sets_in (map part_of (take i cs))) sets = take_rest sets k ∙ ap (λ n. drop n sets) was.sets in
-    let done = subst (λ ss. AreDone mid (commands_in (part_of r ∷ []) ss) before after new) rest c.apply_next-done.ensures.done in
+    let rest : take (length sets - k) (drop k sets) ≡ drop (sets_in (map counted_command (take i cs))) sets =
+    take_rest sets k ∙ ap (λ n. drop n sets) was.sets in
+    let done = subst (λ ss. AreDone mid (commands_in (counted_command r ∷ []) ss) before after new) rest c.apply_next-done.ensures.done in
     let more = sets_more cs i r less c.command-item.is in
     record {
       within = omega (arith, c.apply_next-done.ensures.count, more, was.sets, sets_within cs i r less c.command-item.is, c.requires.sets);
@@ -89,5 +90,5 @@ loop-command-preserved g c =
       are_done =
           rw (one_more cs i r less c.command-item.is sets)
           (both_done c.runs_keep_lawful.ensures.compose (g.W.MergeTarget.world c.args.world.now) mid new (commands_of (take i cs) sets)
-          (commands_in (part_of r ∷ []) (drop (sets_in (map part_of (take i cs))) sets)) c.args.outcomes.now before after was.are_done done);
+          (commands_in (counted_command r ∷ []) (drop (sets_in (map counted_command (take i cs))) sets)) c.args.outcomes.now before after was.are_done done);
     }

@@ -28,6 +28,7 @@ loop-stage-preserved g c =
       are_done =
           rw more
           (both_done c.runs_keep_lawful.ensures.compose (g.W.MergeTarget.world c.args.world.now) (g.W.MergeTarget.world c.loop-stage.world)
-          (g.W.MergeTarget.world c.apply_each.new.world) (all_commands (take i ss)) (commands_of c.recorded.result.0.now c.recorded.result.1.now) c.args.outcomes.now
+          (g.W.MergeTarget.world c.apply_each.new.world) (all_commands (take i ss)) (commands_of c.recorded.result.0.now c.recorded.result.1.now)
+          c.args.outcomes.now
           c.loop-stage.outcomes c.apply_each.new.outcomes c.loop-stage.invariant.are_done c.apply_each.ensures);
     }

@@ -1,7 +1,7 @@
 use Rattle.eco_stages.proofs.Common.{◌≡◌, ◌∷◌, [], ◌++◌, ap, subst, sym, ◌∙◌}
 use Rattle.eco_stages.proofs.Runs.{one_apart, own_nothing_more}
 use Rattle.eco_stages.specs.Commands.{command_of}
-use Rattle.eco_stages.specs.Recorded.{OwnNothing, commands_of, part_of, sets_in}
+use Rattle.eco_stages.specs.Recorded.{OwnNothing, commands_of, counted_command, sets_in}
 use Rattle.std.specs.Prelude.{map, ◌||◌}
 use Rattle.eco_stages.proofs.stage.Stage.record_apart.Goals as goal
 
@@ -17,7 +17,7 @@ invariant_of-self-2 c =
     record {
       owners = subst (OwnNothing (c.self.inside.has_owners || c.is_owner.result)) (sym (pushed c))
           (own_nothing_more c.self.inside.has_owners c.is_owner.result items recorded c.self.invariant.owners c.is_owner.ensures);
-      sets = ap (λ rs. sets_in (map part_of rs)) (pushed c) ∙ one.1;
+      sets = ap (λ rs. sets_in (map counted_command rs)) (pushed c) ∙ one.1;
     }
 
 pub returns-clause-ok : goal.returns-clause-ok

@@ -1,14 +1,15 @@
 use Rattle.eco_stages.proofs.Common.{◌≡◌, ◌++◌, length, length-append, ap, ◌∙◌, arith}
 use Rattle.std.specs.Prelude.{map}
 use Rattle.eco_stages.proofs.Runs.{both, sets_append}
-use Rattle.eco_stages.specs.Recorded.{commands_in, part_of, sets_in}
+use Rattle.eco_stages.specs.Recorded.{commands_in, counted_command, sets_in}
 use Rattle.eco_stages.proofs.stage.Stage.record_copies.Goals as goal
 
 module _ (c : goal.After-push_sets) where
-  copied : map part_of c.push_copies.new.list.items ≡ map part_of c.self.inside.commands.items ++ map part_of c.other.inside.commands.items
+  copied : map counted_command c.push_copies.new.list.items
+      ≡ map counted_command c.self.inside.commands.items ++ map counted_command c.other.inside.commands.items
   copied =
-      c.in_default.ensures.ok ∙ ap (λ rs. map part_of rs ++ map part_of c.as_slice.result.now) c.in_ok-reserve.ensures.items
-      ∙ ap (λ rs. map part_of c.self.inside.commands.items ++ map part_of rs) c.as_slice.ensures.value
+      c.in_default.ensures.ok ∙ ap (λ rs. map counted_command rs ++ map counted_command c.as_slice.result.now) c.in_ok-reserve.ensures.items
+      ∙ ap (λ rs. map counted_command c.self.inside.commands.items ++ map counted_command rs) c.as_slice.ensures.value
 
   pushed : c.push_sets.new.list.items ≡ c.self.inside.sets.items ++ c.other.inside.sets.items
   pushed =
@@ -24,7 +25,7 @@ invariant_of-self-2 c =
       sets = omega (
         arith,
         ap sets_in (copied c),
-        sets_append (map part_of own.commands.items) (map part_of other.commands.items),
+        sets_append (map counted_command own.commands.items) (map counted_command other.commands.items),
         c.self.invariant.sets,
         c.other.invariant.sets,
         ap length (pushed c),
@@ -37,7 +38,7 @@ returns-clause-ok c =
     let own = c.self.inside in
     let other = c.other.inside in
     ap (λ ps. commands_in ps c.push_sets.new.list.items) (copied c)
-    ∙ ap (commands_in (map part_of own.commands.items ++ map part_of other.commands.items)) (pushed c)
-    ∙ both (map part_of own.commands.items) (map part_of other.commands.items) own.sets.items other.sets.items c.self.invariant.sets
-    ∙ ap (λ cs. cs ++ commands_in (map part_of other.commands.items) other.sets.items) c.self.view_is
+    ∙ ap (commands_in (map counted_command own.commands.items ++ map counted_command other.commands.items)) (pushed c)
+    ∙ both (map counted_command own.commands.items) (map counted_command other.commands.items) own.sets.items other.sets.items c.self.invariant.sets
+    ∙ ap (λ cs. cs ++ commands_in (map counted_command other.commands.items) other.sets.items) c.self.view_is
     ∙ ap (λ cs. c.args.self.now ++ cs) c.other.view_is

@@ -6,7 +6,7 @@ use Rattle.std.proofs.lemmas.List.Elements.{All-set}
 use Rattle.eco_ids.specs.Run.{Set}
 use Rattle.eco_ids.specs.World.{padded}
 use Rattle.eco_stages.proofs.Runs.{one_set_more}
-use Rattle.eco_stages.specs.Recorded.{commands_of, owns, part_of, set_of_run, sets_in}
+use Rattle.eco_stages.specs.Recorded.{commands_of, owns, counted_command, set_of_run, sets_in}
 use Rattle.eco_stages.proofs.stage.Stage.record_in_run.Goals as goal
 
 module _ (c : goal.After-push_reserved) where
@@ -29,7 +29,7 @@ module _ (c : goal.After-push_reserved) where
       let sets = c.self.inside.sets.items in
       let now = set items (vec_len c.self.inside.commands - 1) c.lengthen.new.self in
       (commands_of now (sets ++ c.in-Some.set ∷ []) ≡ commands_of items sets ++ set_of_run c.args.id c.in-Some.set ∷ [])
-      × (sets_in (map part_of now) ≡ length (sets ++ c.in-Some.set ∷ []))
+      × (sets_in (map counted_command now) ≡ length (sets ++ c.in-Some.set ∷ []))
   after =
       one_set_more c.self.inside.commands.items c.self.inside.sets.items (vec_len c.self.inside.commands - 1) c.in-Some-last_mut.last.now
       c.lengthen.new.self c.args.id c.in-Some.set last c.in-Some-last_mut.ensures.value (c.has_run_of.ensures c.if-not-has_run_of.false)

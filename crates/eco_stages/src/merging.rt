@@ -1,5 +1,5 @@
 //! Stages that are done by whoever does commands.
-ghost use Rattle.std.specs.Prelude.{◌≡◌, ◌+◌, ◌≤◌, ◌<◌, ◌++◌, ◌∷◌, [], length, map, take, IfOk, IsTrue, OnErr};
+ghost use Rattle.std.specs.Prelude.{◌≡◌, ◌+◌, ◌≤◌, ◌<◌, ◌++◌, ◌∷◌, [], drop, length, map, IfOk, IsTrue, OnErr};
 ghost use Rattle.eco_ids.specs.Outcome.{Meets};
 ghost use Rattle.eco_ids.specs.Run.{Applies, may_want};
 ghost use Rattle.eco_ids.specs.World.{WorldState};
@@ -43,28 +43,31 @@ fn apply_one<W: MergeTarget>(world: &mut W, command: &Recorded, outcomes: &mut O
     outcomes.push(outcome);
 }
 
-// The command is done, and then the sets of its run, which come first in the list; and their outcomes are appended. The answer is
-// how many sets those are.
+// The command is done, and then the sets of its run, which stand from a place on in the list; and their outcomes are appended. The
+// answer is the place behind them.
 #[inline(always)]
 fn apply_next<W: MergeTarget>(
     world: &mut W,
     command: &Recorded,
     sets: &[RunSet],
+    first: usize,
     outcomes: &mut Outcomes,
 ) -> usize
-    requires sets { more_of command.now ≤ length sets.now }
+    requires sets { first + more_of command.now ≤ length sets.now }
     requires room { length outcomes.old.outcomes + (more_of command.now + 1) ≤ outcomes.old.room }
-    ensures count { result ≡ more_of command.now }
-    ensures done { AreDone (W.world world.old) (commands_in (counted_command command.now ∷ []) sets.now)
+    ensures place { result ≡ first + more_of command.now }
+    ensures done { AreDone (W.world world.old)
+        (commands_in (counted_command command.now ∷ []) (drop first sets.now))
         outcomes.old outcomes.new (W.world world.new) }
 {
     eco_ids::laws::runs_keep_lawful();
     apply_one(world, command, outcomes);
     let Some((id, more)) = command.run() else {
-        return 0;
+        return first;
     };
-    world.apply_sets(id, &sets[..more], outcomes);
-    more
+    let end = first + more;
+    world.apply_sets(id, &sets[first..end], outcomes);
+    end
 }
 
 // The commands are done, one after another and each with the sets of its run, and their outcomes appended.
@@ -83,7 +86,7 @@ fn apply_each<W: MergeTarget>(
     eco_ids::laws::runs_keep_lawful();
     let mut done = 0;
     for command in commands {
-        done += apply_next(world, command, &sets[done..], outcomes);
+        done = apply_next(world, command, sets, done, outcomes);
     }
 }
 

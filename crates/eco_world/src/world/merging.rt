@@ -114,7 +114,7 @@ impl MergeTarget for World {
     #[inline(never)]
     fn apply_sets(&mut self, id: Id, sets: &[RunSet], outcomes: &mut Outcomes) {
         eco_stages::laws::commands_are_done_in_turn();
-        let mut known = None;
+        let mut known = self.settable(id).ok();
         let mut near = 0;
         for set in sets {
             self.set_in_run(&mut known, &mut near, id, set, outcomes);

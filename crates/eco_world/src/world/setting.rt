@@ -136,7 +136,7 @@ impl World {
 
     // How many fields the values of the id have, where values may stand at it.
     #[inline(always)]
-    fn settable(&self, id: Id) -> Result<u8, Refusal>
+    pub(crate) fn settable(&self, id: Id) -> Result<u8, Refusal>
         ensures ok { IfOk result (IsSettable self.now id) }
         ensures err { IfErr result (IsUnsettable self.now id) }
     {

@@ -1,11 +1,20 @@
-use Rattle.eco_world.proofs.Common.{◌+◌, ◌∷◌, [], take, get_or, length-map, length-take-le, map_more, arith, AreDone}
+use Rattle.eco_world.proofs.Common.{◌+◌, ◌∷◌, [], take, get_or, length-map, length-take-le, map_more, arith, AreDone, Err, IfSome, IsSettable, Ok, Result}
 use Rattle.std.specs.Prelude.{map}
+use Rattle.std.specs.Result.{IfOk, result_ok}
 use Rattle.eco_stages.specs.Recorded.{set_of_run}
 use Rattle.eco_stages.specs.declared.run_set.RunSet.{RunSet}
 use Rattle.eco_world.proofs.world.merging.WorldMergeTarget.apply_sets.Goals as goal
 
+-- what is so of an answer is so of what may be there
+there : {X E : Type 0} (P : X → Type 0) (r : Result X E) → IfOk r P → IfSome (result_ok r) P
+there P (Ok x) is = is
+there P (Err e) is = tt
+
 pub loop-set-init : goal.loop-set-init
-loop-set-init c = record { are_done = c.commands_are_done_in_turn.ensures.none c.args.self.now c.args.outcomes.now; known = tt }
+loop-set-init c = record {
+  are_done = c.commands_are_done_in_turn.ensures.none c.args.self.now c.args.outcomes.now;
+  known = rw c.ok-known.ensures.value (there (IsSettable c.args.self.now c.args.id) c.settable.result c.settable.ensures.ok);
+}
 
 pub set_in_run-requires-clause-room : goal.set_in_run-requires-clause-room
 set_in_run-requires-clause-room c =

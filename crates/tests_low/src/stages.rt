@@ -110,7 +110,7 @@ fn has_runs(stage: &Stage) -> bool {
     are_commands && are_sets && stage.len() == 6
 }
 
-// Whether runs are kept so where they were recorded, and in a copy behind another's commands, where a set of the same id goes on.
+// Whether runs are kept so where they were recorded and in a copy, whose last run goes on.
 fn are_runs(alloc: Global) -> bool {
     let mut stage = Stage::new(alloc);
     let mut copy = Stage::new(alloc);

@@ -16,6 +16,11 @@ ghost use Rattle.eco_index.specs.IdIndex.{ListsSame, Turns, any_matches};
 ghost use Rattle.eco_index.specs.TypeMap.{IsTypeMap, same_ids};
 ghost use Rattle.eco_archetypes.specs.Archetypes.{is_type, type_at, IsIdIndex, SameSlots, RowlessIn, SameRows, FindsRoom};
 ghost use Rattle.eco_archetypes.specs.Widths.{AreWidths, FitsIn, KeepsWidths, MeetsNeeds, StillCover};
+ghost use Rattle.std.specs.Prelude.{IsTrue, drop, take};
+ghost use Rattle.eco_ids.specs.Data.{is_zero_past};
+ghost use Rattle.eco_ids.specs.Order.{has_item};
+ghost use Rattle.eco_ids.specs.declared.value.Value.{Value as Values};
+ghost use Rattle.eco_tables.specs.Runs.{IsRunOf, run_values, table_with_run};
 
 use eco_caches::Caches;
 use eco_entities::EntityIndex;
@@ -296,6 +301,34 @@ impl Archetypes {
         ensures widths { KeepsWidths self.old self.new }
     {
         self.tables.set_value(slot, row, id, value, near)
+    }
+
+    /// Writes values of an id in rows one behind the other, from this one on: of the sets, each of an entity and the first fields of
+    /// its value, as many as are of the entities of these rows, at indices no lower than the least, with zeros past so many fields.
+    /// It takes no memory. The answer is how many are written; none where no fields of the id are kept.
+    pub fn set_rows<const N: usize>(
+        &mut self,
+        slot: TableSlot,
+        row: usize,
+        id: Id,
+        sets: &[(Entity, [i64; N])],
+        arity: u8,
+        least: u32,
+    ) -> usize
+        requires few { N ≤ FIELD_COUNT }
+        requires row { row < length (table_in self.old slot).rows }
+        requires fits { (v : Values) → length v.0 ≡ FIELD_COUNT → IsTrue (is_zero_past arity v)
+            → FitsIn self.old id v }
+        ensures written { SetsSlot self.old self.new slot
+            (Some (table_with_run (table_in self.old slot) row id (run_values (take result sets.now)))) }
+        ensures run { IsRunOf (drop row (entities_of (table_in self.old slot).rows)) arity least
+            (take result sets.now) }
+        ensures within { result ≤ length sets.now }
+        ensures long { All (λ s. length s.1 ≡ N) (take result sets.now) }
+        ensures had { 0 < result → IsTrue (has_item id_cmp (table_in self.old slot).ids id) }
+        ensures widths { KeepsWidths self.old self.new }
+    {
+        self.tables.set_rows(slot, row, id, sets, arity, least)
     }
 
     /// A row for a new entity, with zeros, in room that was reserved.

@@ -12,8 +12,8 @@ abbrev pub beginning : WrittenScript → ScriptState
 beginning script = first_state script.edition script.limit
 
 -- the bytes are a script, and the text is that of a run of it by so many workers, which ends with this world
-abbrev pub IsRunOf : ℕ → List ℕ → List ℕ → WorldState → Type 0
-IsRunOf workers bytes text world =
+abbrev pub IsRunOfText : ℕ → List ℕ → List ℕ → WorldState → Type 0
+IsRunOfText workers bytes text world =
     (script : WrittenScript) × (end : ScriptState) × IsScript bytes script × Text workers (beginning script) script.steps text end
     × (end.world ≡ world)
 
@@ -22,7 +22,7 @@ IsRunOf workers bytes text world =
 
 -- the bytes are a script, its text was written, and the run that has this text ends with this world
 abbrev pub RanTo : ℕ → Option (List ℕ) → Option (List ℕ) → Option (List ℕ) → WorldState → Type 0
-RanTo workers had old new world = IfSome had (λ bytes. (text : List ℕ) × IsRunOf workers bytes text world × Appends old new text)
+RanTo workers had old new world = IfSome had (λ bytes. (text : List ℕ) × IsRunOfText workers bytes text world × Appends old new text)
 
 -- the bytes are no script, and nothing was written
 abbrev pub WasNotRead : Option (List ℕ) → Option (List ℕ) → Option (List ℕ) → Type 0
@@ -32,4 +32,4 @@ WasNotRead (Some bytes) old new = Keeps old new × ((script : WrittenScript) →
 -- nothing was written, or the bytes are a script, and a beginning of its text was written
 abbrev pub WasStopped : ℕ → Option (List ℕ) → Option (List ℕ) → Option (List ℕ) → Type 0
 WasStopped workers had old new = IfSome had (λ bytes. Keeps old new
-    ⊎ ((part : List ℕ) × (text : List ℕ) × (end : WorldState) × IsRunOf workers bytes text end × IsBeginning part text × Appends old new part))
+    ⊎ ((part : List ℕ) × (text : List ℕ) × (end : WorldState) × IsRunOfText workers bytes text end × IsBeginning part text × Appends old new part))

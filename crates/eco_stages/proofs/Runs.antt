@@ -12,10 +12,9 @@ use Rattle.eco_ids.specs.declared.entity.Entity.{Entity}
 use Rattle.eco_ids.specs.declared.id.Id.{Id}
 use Rattle.eco_ids.specs.World.{padded}
 use Rattle.eco_ids.specs.declared.value.Value.{Value}
-use Rattle.eco_stages.specs.Recorded.{IsOpenRun, OwnNothing, counted_command, more_of, owns, recorded_command}
+use Rattle.eco_stages.specs.Recorded.{IsOpenRun, OwnNothing, RunSet, counted_command, more_of, owns, recorded_command}
 use Rattle.eco_stages.specs.Recorded.{commands_in, commands_of, set_like, set_of_run, sets_in}
 use Rattle.eco_stages.specs.declared.recorded.Recorded.{Recorded}
-use Rattle.eco_stages.specs.declared.run_set.RunSet.{RunSet}
 
 -- the sets of two lists
 pub sets_append : (ps qs : List (Command × ℕ)) → sets_in (ps ++ qs) ≡ sets_in ps + sets_in qs

@@ -7,7 +7,6 @@ use Rattle.eco_ids.specs.declared.entity.Entity.{Entity}
 use Rattle.eco_ids.specs.declared.id.Id.{Id}
 use Rattle.eco_ids.specs.declared.value.Value.{Value}
 use Rattle.eco_stages.specs.declared.recorded.Recorded.{Recorded}
-use Rattle.eco_stages.specs.declared.run_set.RunSet.{RunSet}
 use Rattle.eco_stages.specs.declared.recorded.Recorded.TheVariants.{Create, Add, Remove, Set, SetWide, Clear, Rename, Delete, DeleteWith, RemoveAll}
 
 -- the command of the definitions: zeros stand behind few fields, and a name is its bytes
@@ -32,9 +31,13 @@ more_of _ = 0
 abbrev pub counted_command : Recorded → run.Command × ℕ
 counted_command c = (recorded_command c, more_of c)
 
+-- a set of a run: whose value is set, and the first fields of that
+abbrev pub RunSet : Type 0
+RunSet = Entity × List ℤ
+
 -- the command of a set of a run, whose id this is
 abbrev pub set_of_run : Id → RunSet → run.Command
-set_of_run i s = run.Set s.entity i (padded s.fields)
+set_of_run i s = run.Set s.0 i (padded s.1)
 
 -- the same, behind the first command of the run
 abbrev pub set_like : run.Command → RunSet → run.Command

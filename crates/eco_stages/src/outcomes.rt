@@ -1,5 +1,6 @@
 //! The outcomes of commands as they run.
-ghost use Rattle.std.specs.Prelude.{◌≡◌, ◌<◌, ◌≤◌, ◌^◌, ◌++◌, ◌∷◌, [], IfOk, OnErr, OnOk, length};
+ghost use Rattle.std.specs.Prelude.{◌≡◌, ◌+◌, ◌<◌, ◌≤◌, ◌^◌, ◌++◌, ◌∷◌, [], IfOk, OnErr, OnOk, length};
+ghost use Rattle.eco_stages.specs.Outcomes.{all_done};
 
 use crate::iter::Iter;
 use eco_ids::Refusal;
@@ -77,6 +78,17 @@ impl Outcomes {
             }
         }
         self.count += 1;
+    }
+
+    /// As many outcomes come last as sets were done, in room that is there. It takes no memory.
+    #[inline]
+    pub fn push_done(&mut self, count: usize)
+        requires { length self.old.outcomes + count ≤ self.old.room }
+        ensures written { self.new.outcomes ≡ self.old.outcomes ++ all_done count }
+        ensures room { self.new.room ≡ self.old.room }
+    {
+        self.done += count;
+        self.count += count;
     }
 
     /// Each of them, in their order.

@@ -6,7 +6,7 @@ ghost use Rattle.eco_stages.specs.Recorded.{OwnNothing, commands_of, counted_com
 
 use crate::command::Command;
 use crate::recorded::Recorded;
-use crate::run_set::RunSet;
+use crate::run_set::{RunSet, run_set};
 use eco_ids::{Entity, Id, Value};
 use std::alloc::{AllocError, Global};
 use std::marker::Model;
@@ -112,7 +112,7 @@ impl Stage {
         ensures yes { IsTrue result → self.new ≡ self.old ++ Set entity id value ∷ [] }
         ensures no { IsFalse result → self.new ≡ self.old }
     {
-        let Some(set) = RunSet::of(entity, value) else {
+        let Some(set) = run_set(entity, value) else {
             return false;
         };
         let Some(last) = self.commands.last_mut() else {

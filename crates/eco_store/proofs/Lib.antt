@@ -24,3 +24,4 @@ pub mod Dying
 pub mod Clearing
 pub mod Thinning
 pub mod Coupled
+pub mod Runs

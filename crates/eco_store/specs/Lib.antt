@@ -5,3 +5,4 @@ pub mod Moving
 pub mod Staying
 pub mod Layout
 pub mod Lent
+pub mod Runs

@@ -33,6 +33,7 @@ mod deaths;
 mod exchanging;
 mod moves;
 mod population;
+mod runs;
 mod searching;
 mod stepping;
 mod viewing;

@@ -5,6 +5,7 @@ pub mod Kept
 pub mod Packing
 pub mod RowIds
 pub mod Rows
+pub mod Runs
 pub mod Shapes
 pub mod Slots
 pub mod Turning

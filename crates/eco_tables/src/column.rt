@@ -78,6 +78,8 @@ macro_rules! at_equal_widths {
     };
 }
 
+mod runs;
+
 /// A contract sees the id, how many fields are kept (`width`), the whole values, and how many more fit with no allocation
 /// (`room`).
 pub struct Column {

@@ -27,6 +27,7 @@ use std::alloc::{AllocError, Global};
 use std::marker::Model;
 use std::mem;
 
+mod runs;
 mod turning;
 
 /// The entities of one type (Flecs manual, "Component Traits": an archetype table). Rows have no order of their own: a

@@ -220,7 +220,7 @@ module _ (w : WorldState) (e : Entity) (i : Id) (v : Value) (may_set : MaySet w 
   fit_set = rw (may_set.alive, may_set.free, may_set.living, may_set.data_id, may_set.narrow) refl
 
   -- where the id is there
-  sets_there : has w e i ≡ true → Sets w e i v (Ok tt) (changed w e (with_value i v))
+  pub sets_there : has w e i ≡ true → Sets w e i v (Ok tt) (changed w e (with_value i v))
   sets_there there = rw (may_set.alive, may_set.free, may_set.living, may_set.data_id, may_set.narrow, there) (refl, refl)
 
   -- where it isn't, a set is an extension

@@ -24,3 +24,4 @@ pub mod Tabled
 pub mod TypeOrder
 pub mod Unheld
 pub mod Walk
+pub mod Rewriting

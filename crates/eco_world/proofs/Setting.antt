@@ -21,7 +21,7 @@ module _ (w : WorldState) (e : Entity) (i : Id) (v : Value) where
   fields_alike (Two r t) = λ k. if is_builtin w r then None else option_or (arity_alike r k) (arity_alike t k)
 
   -- who lives and what has how many fields stays so
-  settable_still : (j : Id) (fields : ℕ) → IsSettable w j fields → IsSettable (changed w e (with_value i v)) j fields
+  pub settable_still : (j : Id) (fields : ℕ) → IsSettable w j fields → IsSettable (changed w e (with_value i v)) j fields
   settable_still j fields is = record { living = living_alike j ∙ is.living; has_fields = fields_alike j ∙ is.has_fields }
 
   -- what stands against an id stands against a set

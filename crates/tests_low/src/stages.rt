@@ -83,7 +83,7 @@ fn has_more(command: &Recorded, count: usize) -> bool {
 
 // Whether it sets the entity to this.
 fn is_set(set: &RunSet, entity: Entity, fields: [i64; 3]) -> bool {
-    set.entity.is(entity) && set.fields == fields
+    set.0.is(entity) && set.1 == fields
 }
 
 // Whether the stage has three commands, two sets of the run of the first, and one of that of the second.

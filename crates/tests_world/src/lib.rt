@@ -55,6 +55,8 @@ mod questions;
 #[cfg(test)]
 mod rounds;
 #[cfg(test)]
+mod run_rows;
+#[cfg(test)]
 mod ships;
 #[cfg(test)]
 mod steps;

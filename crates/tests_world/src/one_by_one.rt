@@ -80,7 +80,7 @@ pub fn number_of(outcome: Result<(), Refusal>) -> u8 {
 // What the sets of a run do.
 fn add_run(deeds: &mut Vec<Option<Deed>>, id: Id, sets: &[RunSet]) -> Result<(), AllocError> {
     for set in sets {
-        let holder = set.entity;
+        let holder = set.0;
         deeds.push(Some(Deed::Set(Had { holder, id })))?;
     }
     Ok(())

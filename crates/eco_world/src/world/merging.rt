@@ -1,5 +1,5 @@
 //! What stages recorded is done.
-ghost use Rattle.std.specs.Prelude.{◌≡◌, ◌+◌, ◌≤◌, ◌<◌, ◌&&◌, ◌∷◌, [], IfSome, nat_lt, length, map, take};
+ghost use Rattle.std.specs.Prelude.{◌≡◌, ◌+◌, ◌≤◌, ◌<◌, ◌&&◌, ◌∷◌, [], drop, IfSome, nat_lt, length, map, take};
 ghost use Rattle.eco_ids.specs.Births.{Admits, MakesAlive, may_admit, may_make_alive};
 ghost use Rattle.eco_ids.specs.Outcome.{Meets};
 ghost use Rattle.eco_ids.specs.Run.{Applies, may_want};
@@ -44,6 +44,61 @@ impl World {
         self.store.admit(count)
     }
 
+    // Sets of a run are done and their outcomes appended: from the first on, as many as write a value where the id is there, of
+    // entities that stand in rows one behind the other. The answer is how many. What a pair's mirror may stand against is asked
+    // for each set by itself.
+    fn set_rows(
+        &mut self,
+        known: Option<u8>,
+        id: Id,
+        sets: &[RunSet],
+        outcomes: &mut Outcomes,
+    ) -> usize
+        requires known { IfSome known (IsSettable self.old id) }
+        requires room { length outcomes.old.outcomes + length sets.now ≤ outcomes.old.room }
+        ensures within { result ≤ length sets.now }
+        ensures done { AreDone self.old (map (set_of_run id) (take result sets.now))
+            outcomes.old outcomes.new self.new }
+        ensures known { IfSome known (IsSettable self.new id) }
+    {
+        eco_ids::laws::steps_keep_lawful();
+        self.is_lawful();
+        let (Some(arity), Id::One(_)) = (known, id) else {
+            return 0;
+        };
+        let least = self.edition.builtin_count();
+        let count = self.store.set_rows(id, sets, arity, least);
+        outcomes.push_done(count);
+        count
+    }
+
+    // Sets of a run are done and their outcomes appended: from the first on, at least one. The answer is how many.
+    fn set_some(
+        &mut self,
+        known: &mut Option<u8>,
+        near: &mut usize,
+        id: Id,
+        sets: &[RunSet],
+        outcomes: &mut Outcomes,
+    ) -> usize
+        requires some { 0 < length sets.now }
+        requires known { IfSome known.old (IsSettable self.old id) }
+        requires room { length outcomes.old.outcomes + length sets.now ≤ outcomes.old.room }
+        ensures some { 0 < result }
+        ensures within { result ≤ length sets.now }
+        ensures done { AreDone self.old (map (set_of_run id) (take result sets.now))
+            outcomes.old outcomes.new self.new }
+        ensures known { IfSome known.new (IsSettable self.new id) }
+    {
+        eco_stages::laws::commands_are_done_in_turn();
+        let count = self.set_rows(*known, id, sets, outcomes);
+        if count > 0 {
+            return count;
+        }
+        self.set_in_run(known, near, id, &sets[0], outcomes);
+        1
+    }
+
     // A set of a run is done, and its outcome appended.
     #[inline(always)]
     fn set_in_run(
@@ -60,7 +115,7 @@ impl World {
         ensures known { IfSome known.new (IsSettable self.new id) }
     {
         eco_stages::laws::commands_are_done_in_turn();
-        if self.rewrite(*known, set.entity, id, Value::of(set.fields), near) {
+        if self.rewrite(*known, set.0, id, Value::of(set.1), near) {
             outcomes.push(Ok(()));
             return;
         }
@@ -116,8 +171,19 @@ impl MergeTarget for World {
         eco_stages::laws::commands_are_done_in_turn();
         let mut known = self.settable(id).ok();
         let mut near = 0;
-        for set in sets {
-            self.set_in_run(&mut known, &mut near, id, set, outcomes);
+        let mut done = 0;
+        while done < sets.len() {
+            let rest = sets_from(sets, done);
+            done += self.set_some(&mut known, &mut near, id, rest, outcomes);
         }
     }
+}
+
+// The sets from a place on.
+#[inline(always)]
+fn sets_from(sets: &[RunSet], place: usize) -> &[RunSet]
+    requires { place ≤ length sets.now }
+    ensures { result.now ≡ drop place sets.now }
+{
+    &sets[place..]
 }

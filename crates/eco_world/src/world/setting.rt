@@ -87,11 +87,11 @@ impl World {
         set: &RunSet,
     ) -> Result<(), Refusal>
         requires { IfSome known.old (IsSettable self.old id) }
-        ensures met { Meets (Sets self.old set.now.entity id (padded set.now.fields))
-            (may_set self.old set.now.entity id (padded set.now.fields)) self.old result self.new }
+        ensures met { Meets (Sets self.old set.now.0 id (padded set.now.1))
+            (may_set self.old set.now.0 id (padded set.now.1)) self.old result self.new }
         ensures known { IfSome known.new (IsSettable self.new id) }
     {
-        self.set_after(known, set.entity, id, Value::of(set.fields))
+        self.set_after(known, set.0, id, Value::of(set.1))
     }
 
     // Whether the entity may have this value at the id.

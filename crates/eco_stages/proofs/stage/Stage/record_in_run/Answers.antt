@@ -21,7 +21,7 @@ module _ (c : goal.After-push_reserved) where
 
   told : set_of_run c.args.id c.in-Some.set ≡ Set c.args.entity c.args.id c.args.value
   told =
-      ap (λ x. Set x c.args.id (padded c.in-Some.set.fields)) c.in-Some.ensures.entity
+      ap (λ x. Set x c.args.id (padded c.in-Some.set.1)) c.in-Some.ensures.entity
       ∙ ap (Set c.args.entity c.args.id) c.in-Some.ensures.value
 
   -- the stage with one set more in its last run

@@ -6,7 +6,7 @@ use Rattle.eco_world.proofs.world.World.set_in_run.Goals as goal
 pub returns-then-rewrite-clause-done : goal.returns-then-rewrite-clause-done
 returns-then-rewrite-clause-done c =
     rw (← c.of.ensures)
-    (c.commands_are_done_in_turn.ensures.one c.args.self.now c.rewrite.new.self (Set c.args.set.now.entity c.args.id c.of.result) (Ok tt)
+    (c.commands_are_done_in_turn.ensures.one c.args.self.now c.rewrite.new.self (Set c.args.set.now.0 c.args.id c.of.result) (Ok tt)
     c.args.outcomes.now c.push.new.self c.push.ensures.written c.push.ensures.room (c.if-rewrite.ensures.met refl))
 
 pub returns-clause-done : goal.returns-clause-done

@@ -34,7 +34,7 @@ no_more rows first end rises most =
     omega (arith, len)
 
 -- so many and some more
-take_both : {X : Type 0} (n m : ℕ) (xs : List X) → take (n + m) xs ≡ take n xs ++ take m (drop n xs)
+pub take_both : {X : Type 0} (n m : ℕ) (xs : List X) → take (n + m) xs ≡ take n xs ++ take m (drop n xs)
 take_both n m xs =
     let back = take-append-drop n (take (n + m) xs) in
     let few : n ≤ n + m = omega arith in

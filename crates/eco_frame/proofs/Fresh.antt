@@ -19,7 +19,7 @@ total-append : {X : Type 0} (f : X → ℕ) (xs ys : List X) → total f (xs ++ 
 total-append f [] ys = omega arith
 total-append f (x ∷ xs) ys = let h = total-append f xs ys in omega arith
 
-times_concat : (x : ℕ) (xss : List (List ℕ)) → times x (concat xss) ≡ total (times x) xss
+pub times_concat : (x : ℕ) (xss : List (List ℕ)) → times x (concat xss) ≡ total (times x) xss
 times_concat x [] = refl
 times_concat x (xs ∷ xss) =
     let h = times_concat x xss in
@@ -98,7 +98,7 @@ back_up [] ys h = h
 back_up (x ∷ xs) ys h = let r = back_up xs ys in grind (arith, nat_tests)
 
 -- lists of which the numbers ascend one behind the other
-parts_up : (own : List (List ℕ)) → ascends (concat own) ≡ true → All (λ (d : List ℕ). ascends d ≡ true) own
+pub parts_up : (own : List (List ℕ)) → ascends (concat own) ≡ true → All (λ (d : List ℕ). ascends d ≡ true) own
 parts_up [] h = All-nil (λ (d : List ℕ). ascends d ≡ true)
 parts_up (d ∷ own) h = All-cons (λ (d : List ℕ). ascends d ≡ true) d own (front_up d (concat own) h) (parts_up own (back_up d (concat own) h))
 

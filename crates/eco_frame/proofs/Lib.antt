@@ -3,6 +3,8 @@ pub mod Columns
 pub mod Alike
 pub mod Batched
 pub mod Between
+pub mod Chunked
+pub mod Chunks
 pub mod Cut
 pub mod Fresh
 pub mod Grouped

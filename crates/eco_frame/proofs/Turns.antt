@@ -25,7 +25,7 @@ module _ (One Other : WorldState → List SystemModel → BatchDraws → FrameOu
   turns_weaker w (b ∷ bs) [] os new h = absurd h
   turns_weaker w (b ∷ bs) (d ∷ ds) os new h = (h.0, h.1, h.2, weaker w b d h.0 h.2 h.3, turns_weaker h.2 bs ds h.1 new h.4, h.5)
 
-joined_append : {A : Type 0} (xss : List (List A)) (xs : List A) → joined (xss ++ xs ∷ []) ≡ joined xss ++ xs
+pub joined_append : {A : Type 0} (xss : List (List A)) (xs : List A) → joined (xss ++ xs ∷ []) ≡ joined xss ++ xs
 joined_append [] xs = append-nil xs
 joined_append (x ∷ xss) xs = ap (λ l. x ++ l) (joined_append xss xs) ∙ sym (append_assoc x (joined xss) xs)
 

@@ -1,3 +1,4 @@
+pub mod Chunks
 pub mod Models
 pub mod Pieces
 pub mod Pipelines

@@ -10,6 +10,7 @@ ghost use Rattle.eco_frame.specs.Models.{model_at, model_of};
 ghost use Rattle.eco_frame.specs.Pieces.{AreGiven, IsRecorded, IsRunOut, Settled};
 ghost use Rattle.eco_frame.specs.Progresses.{HasRun};
 
+use crate::chunk::chunks;
 use crate::part::{Part, parts, pieces};
 use crate::progress::Progress;
 use eco_bodies::{System, SystemBody};
@@ -79,7 +80,7 @@ fn record_alone<P: Piece>(
     Ok((stages, drawn))
 }
 
-// Records the pieces by so many workers: by one into one stage, else each into a stage of its own.
+// Records the pieces by so many workers: by one into one stage, else each chunk of them into a stage of its own.
 fn record_pieces<P: Piece + Sync, R: Threads + Sync>(
     rt: &R,
     alloc: Global,
@@ -105,12 +106,14 @@ fn record_pieces<P: Piece + Sync, R: Threads + Sync>(
     if workers == 1 {
         return record_alone(alloc, spare, pieces, base, limit);
     }
+    let chunks = chunks(alloc, pieces, workers)?;
     let spare = replace(spare, Vec::new(alloc));
-    run_batch(rt, alloc, spare, pieces, workers, base, limit)
+    run_batch(rt, alloc, spare, &chunks, workers, base, limit)
 }
 
 // Records the systems at some positions of declaration on a world. Answers stages, which in order hold what the pieces of the
-// systems record in order, and how many handles were drawn. By one worker it is one stage, else one for each piece.
+// systems record in order, and how many handles were drawn. By one worker it is one stage, else one for each chunk of
+// pieces.
 fn record<B: SystemBody + Sync, R: Threads + Sync>(
     rt: &R,
     alloc: Global,

@@ -3,6 +3,7 @@
 #![tactic(auto)]
 
 mod batch;
+mod chunk;
 mod column;
 mod column_row;
 mod column_rows;

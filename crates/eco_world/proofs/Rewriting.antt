@@ -1,5 +1,5 @@
 -- Runs of sets that write values of an id that is there, set by set.
-use Rattle.eco_world.proofs.Common.{◌≡◌, ◌==◌, ◌&&◌, ◌||◌, ℕ, ◌+◌, ◌-◌, ◌<◌, ◌≤◌, Bool, true, false, if◌then◌else◌, List, [], ◌∷◌, ◌++◌, map, length}
+use Rattle.eco_world.proofs.Common.{◌≡◌, ◌==◌, ◌&&◌, ◌||◌, ℕ, ◌+◌, ◌-◌, ◌≤◌, Bool, true, false, if◌then◌else◌, List, [], ◌∷◌, ◌++◌, map, length}
 use Rattle.eco_world.proofs.Common.{None, option_map, unwrap_or, is_some, Ok, All, IsTrue, refl, sym, ap, subst, ◌∙◌, arith, find, keys_find}
 use Rattle.eco_world.proofs.Common.{Edition, Entity, Id, One, Value, FIELD_COUNT, is_builtin, id_cmp, id_eq, has_item, fits, IsLawful, changed, with_value}
 use Rattle.eco_world.proofs.Common.{WorldState, Record, Sets, MaySet, IsSettable, Indexed, changed_each, QueryTerm, world_with, both}
@@ -137,8 +137,3 @@ take_on n m xs within =
     let long = sym (length-take-le n xs within) in
     let whole = sym (take-append-drop n xs) in
     (λ t. take (long t + m) (whole t)) ∙ take-append-add (take n xs) (drop n xs) m
-
--- the first of a list that has one
-pub first_alone : {X Y : Type 0} (f : X → Y) (xs : List X) (d : X) → 0 < length xs → map f (take 1 xs) ≡ f (get_or xs 0 d) ∷ []
-first_alone f [] d some = absurd (omega (arith, some))
-first_alone f (x ∷ xs) d some = refl

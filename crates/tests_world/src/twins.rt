@@ -1,4 +1,4 @@
-//! Fresh handles of a frame: each is drawn once, and those of a piece ascend, however many workers draw at the same time.
+//! Fresh handles of a frame: each is drawn once, and those of a chunk of pieces ascend, however many workers draw at the same time.
 ghost use Rattle.std.specs.Prelude.{◌≡◌, ◌≤◌, ◌∷◌, [], false};
 ghost use Rattle.eco_ids.specs.declared.pattern.Pattern.TheVariants as pattern;
 ghost use Rattle.eco_bodies.specs.Lent.{item_at};
@@ -13,9 +13,8 @@ use std::alloc::{AllocError, Global};
 use std::sync::atomic::{AtomicU64, Ordering};
 use std::thread::Threads;
 
-const ROWS: u32 = 512;
-
-const ROWS_OF_A_PIECE: usize = 64;
+// The first index that is free where only built-ins and two components are there.
+const FIRST: u32 = 11;
 
 // Makes an entity for each row that has a number, and gives it that number. Where a piece begins it waits, behind its first draw,
 // until so many pieces have drawn, for so many turns.
@@ -90,10 +89,10 @@ impl SystemBody for Twins<'_> {
 }
 
 // The components `Number` and `Twin`, and entities with the numbers from 0 up: the second component.
-fn prepare(world: &mut World) -> Result<Entity, Refusal> {
+fn prepare(world: &mut World, rows: u32) -> Result<Entity, Refusal> {
     let number = Id::One(world.component(Some("Number"), 1)?);
     let twin = world.component(Some("Twin"), 1)?;
-    for k in 0..ROWS {
+    for k in 0..rows {
         let entity = world.create(None)?;
         world.set(entity, number, Value::of([i64::from(k)]))?;
     }
@@ -143,20 +142,20 @@ fn fill(twins: &mut Vec<u32>, world: &World, living: &[Entity], twin: Entity) {
 }
 
 // The index of the twin of each row, in the order of rows; 0 where there is none.
-fn twins_of(alloc: Global, world: &World, twin: Entity) -> Result<Vec<u32>, AllocError> {
+fn twins_of(alloc: Global, world: &World, twin: Entity, rows: u32) -> Result<Vec<u32>, AllocError> {
     let living = world.living()?;
-    let mut twins = vec![in alloc; 0u32; ROWS as usize]?;
+    let mut twins = vec![in alloc; 0u32; rows as usize]?;
     fill(&mut twins, world, &living, twin);
     Ok(twins)
 }
 
 // Whether indices ascend from each to the next, but from the last of so many to the first of the next so many.
-fn ascend_by(rows: usize, twins: &[u32]) -> bool
-    requires { 1 ≤ rows }
+fn ascend_by(chunk: usize, twins: &[u32]) -> bool
+    requires { 1 ≤ chunk }
 {
     let mut before = 0;
     for (row, twin) in twins.iter().enumerate() {
-        if row % rows != 0 && *twin <= before {
+        if row % chunk != 0 && *twin <= before {
             return false;
         }
         before = *twin;
@@ -164,10 +163,12 @@ fn ascend_by(rows: usize, twins: &[u32]) -> bool
     true
 }
 
-// Whether the first index of each of so many pieces is below a bound.
-fn begin_below(pieces: usize, bound: u32, twins: &[u32]) -> bool {
+// Whether the first index of each of so many chunks of so many rows is below a bound.
+fn begin_below(chunks: usize, chunk: usize, bound: u32, twins: &[u32]) -> bool
+    requires { 1 ≤ chunk }
+{
     for (row, twin) in twins.iter().enumerate() {
-        let is_first = row % ROWS_OF_A_PIECE == 0 && row / ROWS_OF_A_PIECE < pieces;
+        let is_first = row % chunk == 0 && row / chunk < chunks;
         if is_first && *twin >= bound {
             return false;
         }
@@ -187,24 +188,24 @@ fn are_from(base: u32, sorted: &[u32]) -> bool {
     true
 }
 
-// Whether the rows drew the indices from 523 on, each once, whether those of each so many rows ascend, and whether as many pieces as
-// there are workers drew one before any of them drew its second.
-fn are_drawn(twins: &mut Vec<u32>, workers: u32, rows: usize) -> bool
-    requires { (workers ≤ 64) × (1 ≤ rows) }
+// Whether so many rows drew the indices behind their own, each once, whether those of each chunk ascend, and whether as many chunks
+// as there are workers drew one before any of them drew its second.
+fn are_drawn(twins: &mut Vec<u32>, workers: u32, rows: u32, chunk: usize) -> bool
+    requires { (workers ≤ 64) × (rows ≤ 16384) × (1 ≤ chunk) }
 {
-    ascend_by(rows, twins.as_slice())
-        && begin_below(workers as usize, 523 + workers, twins.as_slice())
+    let base = FIRST + rows;
+    ascend_by(chunk, twins.as_slice())
+        && begin_below(workers as usize, chunk, base + workers, twins.as_slice())
         && twins.sort().is_ok()
-        && twins.len() == 512
-        && are_from(523, twins.as_slice())
+        && are_from(base, twins.as_slice())
 }
 
 // Whether it is so of a world's twins.
-fn drew(alloc: Global, world: &World, twin: Entity, workers: u32, rows: usize) -> bool
-    requires { (workers ≤ 64) × (1 ≤ rows) }
+fn drew(alloc: Global, world: &World, twin: Entity, workers: u32, rows: u32, chunk: usize) -> bool
+    requires { (workers ≤ 64) × (rows ≤ 16384) × (1 ≤ chunk) }
 {
-    match twins_of(alloc, world, twin) {
-        Ok(mut twins) => are_drawn(&mut twins, workers, rows),
+    match twins_of(alloc, world, twin, rows) {
+        Ok(mut twins) => are_drawn(&mut twins, workers, rows, chunk),
         Err(_) => false,
     }
 }
@@ -215,31 +216,41 @@ fn draws_in<R: Threads + Sync>(
     alloc: Global,
     world: &mut World,
     workers: u32,
-    rows: usize,
+    rows: u32,
+    chunk: usize,
 ) -> bool
-    requires { (1 ≤ workers) × (workers ≤ 64) × (1 ≤ rows) }
+    requires { (1 ≤ workers) × (workers ≤ 64) × (rows ≤ 16384) × (1 ≤ chunk) }
 {
-    match prepare(world) {
+    match prepare(world, rows) {
         Ok(twin) => {
-            draws_twins(rt, alloc, world, twin, workers) && drew(alloc, world, twin, workers, rows)
+            draws_twins(rt, alloc, world, twin, workers)
+                && drew(alloc, world, twin, workers, rows, chunk)
         }
         Err(_) => false,
     }
 }
 
 // Whether it is so of a frame of a new world.
-fn draws_each_once<R: Threads + Sync>(rt: &R, alloc: Global, workers: u32, rows: usize) -> bool
-    requires { (1 ≤ workers) × (workers ≤ 64) × (1 ≤ rows) }
+fn draws_each_once<R: Threads + Sync>(
+    rt: &R,
+    alloc: Global,
+    workers: u32,
+    rows: u32,
+    chunk: usize,
+) -> bool
+    requires { (1 ≤ workers) × (workers ≤ 64) × (rows ≤ 16384) × (1 ≤ chunk) }
 {
-    match World::new(alloc, 2048) {
-        Ok(mut world) => draws_in(rt, alloc, &mut world, workers, rows),
+    match World::new(alloc, 2 * rows + 64) {
+        Ok(mut world) => draws_in(rt, alloc, &mut world, workers, rows, chunk),
         Err(_) => false,
     }
 }
 
+// By two workers 8,200 rows are 129 pieces, of which two are a chunk.
 #[test]
 fn a_frame_draws_each_handle_once(rt: HostRuntime) {
-    assert!(rt; draws_each_once(&rt, rt.alloc(), 1, 512));
-    assert!(rt; draws_each_once(&rt, rt.alloc(), 2, 64));
-    assert!(rt; draws_each_once(&rt, rt.alloc(), 8, 64));
+    assert!(rt; draws_each_once(&rt, rt.alloc(), 1, 512, 512));
+    assert!(rt; draws_each_once(&rt, rt.alloc(), 2, 512, 64));
+    assert!(rt; draws_each_once(&rt, rt.alloc(), 8, 512, 64));
+    assert!(rt; draws_each_once(&rt, rt.alloc(), 2, 8200, 128));
 }

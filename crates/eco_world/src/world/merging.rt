@@ -13,6 +13,9 @@ use crate::world::World;
 use eco_ids::{Entity, Id, Refusal, Value};
 use eco_stages::{MergeTarget, Outcomes, Recorded, Report, RunSet, Stage, apply_stages, room_for};
 
+// So many sets at most are done before rows are looked for again, where none or one stood in such.
+const APART: usize = 16;
+
 impl World {
     /// Makes `admitted` more indices known, at generation 0, and then does the commands of all stages, stage by stage and each
     /// stage in its order. Each command is done or refused as its call is, on the world that the commands before it leave; a
@@ -72,11 +75,14 @@ impl World {
         count
     }
 
-    // Sets of a run are done and their outcomes appended: from the first on, at least one. The answer is how many.
+    // Sets of a run are done and their outcomes appended: from the first on, at least one. The answer is how many. Where at most
+    // one stands in rows one behind the other, so many are done each by itself, and twice as many the next time: so rows are not
+    // looked for at each set of those that come in another order.
     fn set_some(
         &mut self,
         known: &mut Option<u8>,
         near: &mut usize,
+        apart: &mut usize,
         id: Id,
         sets: &[RunSet],
         outcomes: &mut Outcomes,
@@ -92,11 +98,34 @@ impl World {
     {
         eco_stages::laws::commands_are_done_in_turn();
         let count = self.set_rows(*known, id, sets, outcomes);
-        if count > 0 {
+        if count > 1 {
+            *apart = 1;
             return count;
         }
-        self.set_in_run(known, near, id, &sets[0], outcomes);
-        1
+        let most = sets.len().min((*apart).max(1));
+        self.set_each(known, near, id, &sets[count..most], outcomes);
+        *apart = APART.min(most.saturating_mul(2));
+        most
+    }
+
+    // Sets of a run are done, each by itself, and their outcomes appended: all of them.
+    fn set_each(
+        &mut self,
+        known: &mut Option<u8>,
+        near: &mut usize,
+        id: Id,
+        sets: &[RunSet],
+        outcomes: &mut Outcomes,
+    )
+        requires known { IfSome known.old (IsSettable self.old id) }
+        requires room { length outcomes.old.outcomes + length sets.now ≤ outcomes.old.room }
+        ensures done { AreDone self.old (map (set_of_run id) sets.now) outcomes.old outcomes.new self.new }
+        ensures known { IfSome known.new (IsSettable self.new id) }
+    {
+        eco_stages::laws::commands_are_done_in_turn();
+        for set in sets {
+            self.set_in_run(known, near, id, set, outcomes);
+        }
     }
 
     // A set of a run is done, and its outcome appended.
@@ -171,10 +200,11 @@ impl MergeTarget for World {
         eco_stages::laws::commands_are_done_in_turn();
         let mut known = self.settable(id).ok();
         let mut near = 0;
+        let mut apart = 1;
         let mut done = 0;
         while done < sets.len() {
             let rest = sets_from(sets, done);
-            done += self.set_some(&mut known, &mut near, id, rest, outcomes);
+            done += self.set_some(&mut known, &mut near, &mut apart, id, rest, outcomes);
         }
     }
 }

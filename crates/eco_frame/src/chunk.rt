@@ -1,5 +1,5 @@
 //! Chunks of a batch: pieces that follow one another.
-ghost use Rattle.std.specs.Prelude.{◌≡◌, ◌+◌, ◌<◌, ◌≤◌, drop, flat_map, false, length, take, IfErr, IfOk};
+ghost use Rattle.std.specs.Prelude.{◌≡◌, ◌+◌, ◌*◌, ◌<◌, ◌≤◌, drop, flat_map, false, length, take, IfErr, IfOk};
 ghost use Rattle.eco_stages.specs.Taking.{Broke, Took, stopped_by};
 ghost use Rattle.eco_frame.specs.Chunks.{chunk_commands, chunk_pieces, chunk_taken};
 
@@ -8,7 +8,8 @@ use eco_stages::{Draws, Stage};
 use eco_workers::Piece;
 use std::alloc::{AllocError, Global};
 
-// How many chunks there are for each worker, where there are pieces enough: so whoever is last lets the others wait for little.
+// How many chunks there are for each worker at least, where there are pieces enough: so whoever is last lets the others wait for
+// little.
 const EACH: usize = 32;
 
 // How many pieces a chunk has at most. Stages of more would save a merge little.
@@ -70,21 +71,29 @@ impl<P: Piece> Piece for Chunk<'_, P> {
     }
 }
 
-// How many pieces a chunk has, where there are so many for so many workers.
+// How many pieces a chunk has, where there are so many for so many workers: one, unless there are 64 and more for each.
 fn chunk_size(pieces: usize, workers: u32) -> usize
-    ensures { 0 < result }
+    requires { 1 ≤ workers }
+    ensures few { pieces < 64 * workers → result ≡ 1 }
+    ensures many { 64 * workers ≤ pieces → 1 < result }
+    ensures most { (1 ≤ result) × (result ≤ 8) }
 {
-    let size = pieces / EACH / (workers as usize).max(1);
-    size.clamp(1, MOST)
+    let least = EACH * workers as usize;
+    (pieces / least).clamp(1, MOST)
 }
 
-// The pieces in their order, as chunks for so many workers.
+// The pieces in their order, as chunks for so many workers: each a chunk, unless there are 64 and more for each worker.
 pub(crate) fn chunks<'a, P>(
     alloc: Global,
     pieces: &'a [P],
     workers: u32,
 ) -> Result<Vec<Chunk<'a, P>>, AllocError>
-    ensures { IfOk result (λ v. flat_map chunk_pieces v.items ≡ pieces.now) }
+    requires { 1 ≤ workers }
+    ensures whole { IfOk result (λ v. flat_map chunk_pieces v.items ≡ pieces.now) }
+    ensures few { IfOk result (λ v. length pieces.now < 64 * workers → length v.items ≡ length pieces.now) }
+    ensures many { IfOk result (λ v. 64 * workers ≤ length pieces.now
+        → 2 * length v.items ≤ length pieces.now + 1) }
+    ensures most { IfOk result (λ v. length pieces.now ≤ 8 * length v.items) }
 {
     let size = chunk_size(pieces.len(), workers);
     let mut chunks = Vec::with_capacity(alloc, pieces.len().div_ceil(size))?;

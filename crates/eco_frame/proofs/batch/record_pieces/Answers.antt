@@ -22,7 +22,7 @@ returns-clause-batch g c =
     let taken = g.P.Piece.taken in
     IfOk-weaker c.run_batch.result _ _
     (λ r h. as_pieces commands taken chunk_pieces c.args.workers c.args.base r.1 c.args.pieces.now c.deref.result.now r.0.items
-    (ap (flat_map chunk_pieces) c.deref.ensures.value ∙ c.in_ok-chunks.ensures) h)
+    (ap (flat_map chunk_pieces) c.deref.ensures.value ∙ c.in_ok-chunks.ensures.whole) h)
     c.run_batch.ensures.batch
 
 pub returns-clause-out : goal.returns-clause-out
@@ -31,5 +31,5 @@ returns-clause-out g c =
     let taken = g.P.Piece.taken in
     IfErr-weaker c.run_batch.result _ _
     (λ e h no. pieces_out commands taken chunk_pieces c.args.base c.args.limit c.args.pieces.now c.deref.result.now
-    (ap (flat_map chunk_pieces) c.deref.ensures.value ∙ c.in_ok-chunks.ensures) (h no))
+    (ap (flat_map chunk_pieces) c.deref.ensures.value ∙ c.in_ok-chunks.ensures.whole) (h no))
     c.run_batch.ensures.out

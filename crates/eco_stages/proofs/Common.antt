@@ -6,5 +6,5 @@ pub use Rattle.std.proofs.lemmas.List.{take_all, take_more, take_rest}
 pub use Rattle.eco_ids.specs.declared.refusal.Refusal.{Refusal}
 pub use Rattle.eco_stages.specs.Merging.{AreDone, all_commands, has_commands}
 pub use Rattle.eco_stages.specs.Outcomes.{Outcomes, Written, alike_in_memory, all_done, outcomes_of, until_refused}
-pub use Rattle.eco_stages.specs.Recorded.{commands_of, recorded_command}
+pub use Rattle.eco_stages.specs.Recorded.{commands_at, commands_of}
 pub use native.Mathlib.Omega.{arith}

@@ -1,5 +1,5 @@
 pub mod Common
 pub mod Counted
 pub mod Fields
+pub mod Keeping
 pub mod Merges
-pub mod Runs

@@ -15,6 +15,10 @@ abbrev pub has_commands : List Command → Bool
 has_commands [] = false
 has_commands (c ∷ cs) = true
 
+-- a command met its step
+abbrev pub IsApplied : Command → WorldState → Result (Unit {0}) Refusal → WorldState → Type 0
+IsApplied c old r new = Meets (Applies c old) (may_want c old) old r new
+
 -- the commands ran on a world, and their outcomes stand behind those that were written, in room that was there
 pub record AreDone (w : WorldState) (commands : List Command) (before after : Written) (new : WorldState) : Type 0 where
   pub outcomes : Outcomes
@@ -30,7 +34,7 @@ NoneAreDone = (w : WorldState) (before : Written) → AreDone w [] before before
 abbrev pub OneIsDone : Type 0
 OneIsDone =
     (w new : WorldState) (c : Command) (r : Result (Unit {0}) Refusal) (before after : Written)
-    → after.outcomes ≡ before.outcomes ++ r ∷ [] → after.room ≡ before.room → Meets (Applies c w) (may_want c w) w r new
+    → after.outcomes ≡ before.outcomes ++ r ∷ [] → after.room ≡ before.room → IsApplied c w r new
     → AreDone w (c ∷ []) before after new
 
 -- commands are, and others after them

@@ -1,86 +1,101 @@
 -- What a stage keeps of commands means.
-use Rattle.std.specs.Prelude.{◌≡◌, ◌+◌, ◌<◌, ◌++◌, ◌∷◌, [], ℕ, ℤ, All, Bool, List, None, Option, Some, drop, false, map, option_map, string_bytes, take, true}
-use Rattle.std.specs.Mem.{manually_drop_value}
+use Rattle.std.specs.Prelude.{◌≡◌, ◌+◌, ◌<◌, ◌≤◌, ◌++◌, ◌∷◌, [], ℕ, ℤ, List, None, Option, drop, flat_map, get_or, length, map, option_map, string_bytes, take}
 use Rattle.eco_ids.specs.Run as run
 use Rattle.eco_ids.specs.World.{padded}
 use Rattle.eco_ids.specs.declared.entity.Entity.{Entity}
 use Rattle.eco_ids.specs.declared.id.Id.{Id}
 use Rattle.eco_ids.specs.declared.value.Value.{Value}
+use Rattle.eco_stages.specs.declared.kept.Kept.{Kept}
 use Rattle.eco_stages.specs.declared.recorded.Recorded.{Recorded}
-use Rattle.eco_stages.specs.declared.recorded.Recorded.TheVariants.{Create, Add, Remove, Set, SetWide, Clear, Rename, Delete, DeleteWith, RemoveAll}
+use Rattle.eco_stages.specs.declared.recorded.Recorded.TheVariants.{Create, Add, Remove, Set, Clear, Rename, Delete, DeleteWith, RemoveAll}
+use Rattle.eco_stages.specs.declared.width.Width.{Width}
+use Rattle.eco_stages.specs.declared.width.Width.TheVariants.{One, Three, Eight}
 
--- the command of the definitions: zeros stand behind few fields, and a name is its bytes
-abbrev pub recorded_command : Recorded → run.Command
-recorded_command (Create e) = run.Create e
-recorded_command (Add e i) = run.Add e i
-recorded_command (Remove e i) = run.Remove e i
-recorded_command (Set more e i fields) = run.Set e i (padded fields)
-recorded_command (SetWide e i v) = run.Set e i (manually_drop_value v).value
-recorded_command (Clear e) = run.Clear e
-recorded_command (Rename e name) = run.Rename e (option_map string_bytes (manually_drop_value name))
-recorded_command (Delete e) = run.Delete e
-recorded_command (DeleteWith i) = run.DeleteWith i
-recorded_command (RemoveAll i) = run.RemoveAll i
+-- so many fields of a value
+abbrev pub fields_in : Width → ℕ
+fields_in One = 1
+fields_in Three = 3
+fields_in Eight = 8
 
--- how many sets of its run follow it
-abbrev pub more_of : Recorded → ℕ
-more_of (Set more e i fields) = more
-more_of _ = 0
-
--- both
-abbrev pub counted_command : Recorded → run.Command × ℕ
-counted_command c = (recorded_command c, more_of c)
-
--- a set of a run: whose value is set, and the first fields of that
+-- a set as it is kept: whose value is set, and the first fields of that
 abbrev pub RunSet : Type 0
 RunSet = Entity × List ℤ
 
--- the command of a set of a run, whose id this is
+-- the sets of a width, in order
+abbrev pub sets_of : Width → Kept → List RunSet
+sets_of One k = k.ones.items
+sets_of Three k = k.threes.items
+sets_of Eight k = k.eights.items
+
+-- the names, each as its bytes
+abbrev pub names_of : Kept → List (Option (List ℕ))
+names_of k = map (option_map string_bytes) k.names.items
+
+-- the command of a set of a run, whose id this is: zeros stand behind few fields
 abbrev pub set_of_run : Id → RunSet → run.Command
 set_of_run i s = run.Set s.0 i (padded s.1)
 
--- the same, behind the first command of the run
-abbrev pub set_like : run.Command → RunSet → run.Command
-set_like (run.Set e i v) = set_of_run i
-set_like c = λ s. c
-
--- each command, and behind it the sets of its run, which are taken from the list of all sets of runs, in order
-abbrev pub commands_in : List (run.Command × ℕ) → List RunSet → List run.Command
-commands_in [] sets = []
-commands_in (p ∷ ps) sets = p.0 ∷ map (set_like p.0) (take p.1 sets) ++ commands_in ps (drop p.1 sets)
-
--- how many sets of runs there are
-abbrev pub sets_in : List (run.Command × ℕ) → ℕ
-sets_in [] = 0
-sets_in (p ∷ ps) = p.1 + sets_in ps
+-- the commands that one stands for, which is one but for a run of sets
+abbrev pub commands_at : Kept → Recorded → List run.Command
+commands_at k (Create e) = run.Create e ∷ []
+commands_at k (Add e i) = run.Add e i ∷ []
+commands_at k (Remove e i) = run.Remove e i ∷ []
+commands_at k (Set w count i first) = map (set_of_run i) (take count (drop first (sets_of w k)))
+commands_at k (Clear e) = run.Clear e ∷ []
+commands_at k (Rename e place) = run.Rename e (get_or (names_of k) place None) ∷ []
+commands_at k (Delete e) = run.Delete e ∷ []
+commands_at k (DeleteWith i) = run.DeleteWith i ∷ []
+commands_at k (RemoveAll i) = run.RemoveAll i ∷ []
 
 -- the commands that are recorded
-abbrev pub commands_of : List Recorded → List RunSet → List run.Command
-commands_of commands sets = commands_in (map counted_command commands) sets
+abbrev pub commands_of : Kept → List Recorded → List run.Command
+commands_of k recorded = flat_map (commands_at k) recorded
 
--- a set of the id
-abbrev pub IsSetOf : Id → run.Command → Type 0
-IsSetOf i c = (e : Entity) × (v : Value) × (c ≡ run.Set e i v)
+-- what one speaks of is kept
+abbrev pub SpeaksOfKept : Kept → Recorded → Type 0
+SpeaksOfKept k (Create e) = Unit
+SpeaksOfKept k (Add e i) = Unit
+SpeaksOfKept k (Remove e i) = Unit
+SpeaksOfKept k (Set w count i first) = first + count ≤ length (sets_of w k)
+SpeaksOfKept k (Clear e) = Unit
+SpeaksOfKept k (Rename e place) = place < length (names_of k)
+SpeaksOfKept k (Delete e) = Unit
+SpeaksOfKept k (DeleteWith i) = Unit
+SpeaksOfKept k (RemoveAll i) = Unit
 
--- one that one set more may follow
-abbrev pub IsOpenRun : Id → Recorded → Type 0
-IsOpenRun i c = (more : ℕ) × (e : Entity) × (fields : List ℤ) × (c ≡ Set more e i fields) × (more < 65535)
+-- it is this command, whatever is kept
+abbrev pub StandsAlone : run.Command → Recorded → Type 0
+StandsAlone c r = (k : Kept) → (commands_at k r ≡ c ∷ []) × SpeaksOfKept k r
 
--- of some id
-abbrev pub HasOpenRun : Recorded → Type 0
-HasOpenRun c = (i : Id) × IsOpenRun i c
+-- a run of sets of the id, the last of which is the last of its width, and which one more may join
+abbrev pub IsOpenRun : Id → Width → Kept → Recorded → Type 0
+IsOpenRun i w k r = (count first : ℕ) × (r ≡ Set w count i first) × (first + count ≡ length (sets_of w k)) × (count < 65535)
 
--- it owns memory
-abbrev pub owns : Recorded → Bool
-owns (SetWide e i v) = true
-owns (Rename e name) = true
-owns _ = false
+-- one set more may join it
+abbrev pub HasRoomInRun : Recorded → Type 0
+HasRoomInRun r = (w : Width) × (count : ℕ) × (i : Id) × (first : ℕ) × (r ≡ Set w count i first) × (count < 65535)
 
--- unless there are owners, none of the commands owns memory
-abbrev pub OwnNothing : Bool → List Recorded → Type 0
-OwnNothing has_owners commands = has_owners ≡ false → All (λ r. owns r ≡ false) commands
+-- with one set more
+abbrev pub longer_run : Recorded → Recorded
+longer_run (Set w count i first) = Set w (count + 1) i first
+longer_run r = r
 
--- what a set sets
-abbrev pub parts_of_set : run.Command → Option (Entity × Id × Value)
-parts_of_set (run.Set e i v) = Some (e, i, v)
-parts_of_set _ = None
+-- the same, where what it speaks of is kept behind this
+abbrev pub moved_by : Kept → Recorded → Recorded
+moved_by k (Set w count i first) = Set w count i (length (sets_of w k) + first)
+moved_by k (Rename e place) = Rename e (length (names_of k) + place)
+moved_by k r = r
+
+-- what is kept stays at its place, and more may come behind it
+pub record StaysKept (old new : Kept) : Type 0 where
+  pub sets : (w : Width) → (more : List RunSet) × (sets_of w new ≡ sets_of w old ++ more)
+  pub names : (more : List (Option (List ℕ))) × (names_of new ≡ names_of old ++ more)
+
+-- all that one keeps, and behind it all that another does
+pub record KeepsBoth (own more all : Kept) : Type 0 where
+  pub sets : (w : Width) → sets_of w all ≡ sets_of w own ++ sets_of w more
+  pub names : names_of all ≡ names_of own ++ names_of more
+
+-- one set more of this width, of the entity to the value
+abbrev pub EndsInSet : Width → Entity → Value → Kept → Kept → Type 0
+EndsInSet w e v old new = (fields : List ℤ) × (sets_of w new ≡ sets_of w old ++ (e, fields) ∷ []) × (padded fields ≡ v)

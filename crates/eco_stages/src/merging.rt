@@ -1,92 +1,151 @@
 //! Stages that are done by whoever does commands.
-ghost use Rattle.std.specs.Prelude.{◌≡◌, ◌+◌, ◌≤◌, ◌<◌, ◌++◌, ◌∷◌, [], drop, length, map, IfOk, IsTrue, OnErr};
-ghost use Rattle.eco_ids.specs.Outcome.{Meets};
-ghost use Rattle.eco_ids.specs.Run.{Applies, may_want};
+ghost use Rattle.std.specs.Prelude.{◌≡◌, ◌+◌, ◌≤◌, ◌<◌, ◌++◌, ◌∷◌, [], All, length, map, option_copied, IfOk, IsTrue, OnErr};
+ghost use Rattle.eco_ids.specs.Run.{Create, Add, Remove, Clear, Rename, Delete, DeleteWith, RemoveAll};
 ghost use Rattle.eco_ids.specs.World.{WorldState};
-ghost use Rattle.eco_stages.specs.Merging.{all_commands, has_commands, AreDone};
-ghost use Rattle.eco_stages.specs.Recorded.{commands_in, commands_of, more_of, counted_command, recorded_command, set_like, set_of_run, sets_in};
+ghost use Rattle.eco_stages.specs.Merging.{all_commands, has_commands, AreDone, IsApplied};
+ghost use Rattle.eco_stages.specs.Recorded.{SpeaksOfKept, commands_at, commands_of, set_of_run};
 
+use crate::kept::Kept;
+use crate::laws::commands_are_done_in_turn;
 use crate::outcomes::Outcomes;
 use crate::recorded::Recorded;
 use crate::run_set::RunSet;
 use crate::stage::Stage;
-use eco_ids::{Id, Refusal};
+use crate::width::Width;
+use eco_ids::{Entity, Id, Refusal};
 use std::alloc::{AllocError, Global};
 
-/// Whoever does commands: a world, into which stages are merged (Flecs manual, Systems, staging).
+/// Whoever does commands: a world, into which stages are merged (Flecs manual, Systems, staging). Each is done, or refused
+/// as the call of a world is that it stands for; a refused one changes nothing.
 pub trait MergeTarget {
     // The world as definitions have it.
     ghost world: { Self → WorldState };
 
-    /// The command is done, or refused as the call of a world is that it stands for; a refused one changes nothing. The sets that
-    /// follow it are not done.
-    fn apply(&mut self, command: &Recorded) -> Result<(), Refusal>
-        ensures { Meets (Applies (recorded_command command.now) (world self.old))
-            (may_want (recorded_command command.now) (world self.old)) (world self.old)
-            result (world self.new) };
+    /// [`crate::Command::Create`].
+    fn apply_create(&mut self, entity: Entity) -> Result<(), Refusal>
+        ensures { IsApplied (Create entity) (world self.old) result (world self.new) };
 
-    /// Sets of the id are done, one after another, and their outcomes appended: so what is known of the id serves for all of them.
-    fn apply_sets(&mut self, id: Id, sets: &[RunSet], outcomes: &mut Outcomes)
+    /// [`crate::Command::Add`].
+    fn apply_add(&mut self, entity: Entity, id: Id) -> Result<(), Refusal>
+        ensures { IsApplied (Add entity id) (world self.old) result (world self.new) };
+
+    /// [`crate::Command::Remove`].
+    fn apply_remove(&mut self, entity: Entity, id: Id) -> Result<(), Refusal>
+        ensures { IsApplied (Remove entity id) (world self.old) result (world self.new) };
+
+    /// [`crate::Command::Clear`].
+    fn apply_clear(&mut self, entity: Entity) -> Result<(), Refusal>
+        ensures { IsApplied (Clear entity) (world self.old) result (world self.new) };
+
+    /// [`crate::Command::Rename`].
+    fn apply_rename(&mut self, entity: Entity, name: Option<&str>) -> Result<(), Refusal>
+        ensures { IsApplied (Rename entity (option_copied name.entry)) (world self.old) result
+            (world self.new) };
+
+    /// [`crate::Command::Delete`].
+    fn apply_delete(&mut self, entity: Entity) -> Result<(), Refusal>
+        ensures { IsApplied (Delete entity) (world self.old) result (world self.new) };
+
+    /// [`crate::Command::DeleteWith`].
+    fn apply_delete_with(&mut self, id: Id) -> Result<(), Refusal>
+        ensures { IsApplied (DeleteWith id) (world self.old) result (world self.new) };
+
+    /// [`crate::Command::RemoveAll`].
+    fn apply_remove_all(&mut self, id: Id) -> Result<(), Refusal>
+        ensures { IsApplied (RemoveAll id) (world self.old) result (world self.new) };
+
+    /// A run of sets of the id is done, one after another, and their outcomes appended: so what is known of the id serves
+    /// for all of them. Their values have one field.
+    fn apply_ones(&mut self, id: Id, sets: &[RunSet<1>], outcomes: &mut Outcomes)
+        requires { length outcomes.old.outcomes + length sets.now ≤ outcomes.old.room }
+        ensures { AreDone (world self.old) (map (set_of_run id) sets.now)
+            outcomes.old outcomes.new (world self.new) };
+
+    /// The same of values of three fields.
+    fn apply_threes(&mut self, id: Id, sets: &[RunSet<3>], outcomes: &mut Outcomes)
+        requires { length outcomes.old.outcomes + length sets.now ≤ outcomes.old.room }
+        ensures { AreDone (world self.old) (map (set_of_run id) sets.now)
+            outcomes.old outcomes.new (world self.new) };
+
+    /// The same of values of eight fields.
+    fn apply_eights(&mut self, id: Id, sets: &[RunSet<8>], outcomes: &mut Outcomes)
         requires { length outcomes.old.outcomes + length sets.now ≤ outcomes.old.room }
         ensures { AreDone (world self.old) (map (set_of_run id) sets.now)
             outcomes.old outcomes.new (world self.new) };
 }
 
-// The command is done, and its outcome appended.
-#[inline(always)]
-fn apply_one<W: MergeTarget>(world: &mut W, command: &Recorded, outcomes: &mut Outcomes)
-    requires { length outcomes.old.outcomes < outcomes.old.room }
-    ensures { AreDone (W.world world.old) (recorded_command command.now ∷ []) outcomes.old outcomes.new
-        (W.world world.new) }
-{
-    let outcome = world.apply(command);
-    outcomes.push(outcome);
-}
-
-// The command is done, and then the sets of its run, which stand from a place on in the list; and their outcomes are appended. The
-// answer is the place behind them.
-#[inline(always)]
-fn apply_next<W: MergeTarget>(
+// What `apply` does, also with a command that is rare in long stages. Apart, so that what these keep takes no room where
+// entities come and get ids. Each outcome is appended where it comes: to hand it on would copy it.
+#[inline(never)]
+fn apply_rest<W: MergeTarget>(
     world: &mut W,
     command: &Recorded,
-    sets: &[RunSet],
-    first: usize,
+    kept: &Kept,
     outcomes: &mut Outcomes,
-) -> usize
-    requires sets { first + more_of command.now ≤ length sets.now }
-    requires room { length outcomes.old.outcomes + (more_of command.now + 1) ≤ outcomes.old.room }
-    ensures place { result ≡ first + more_of command.now }
-    ensures done { AreDone (W.world world.old)
-        (commands_in (counted_command command.now ∷ []) (drop first sets.now))
+)
+    requires kept { SpeaksOfKept kept.now command.now }
+    requires room { length outcomes.old.outcomes + length (commands_at kept.now command.now)
+        ≤ outcomes.old.room }
+    ensures { AreDone (W.world world.old) (commands_at kept.now command.now)
         outcomes.old outcomes.new (W.world world.new) }
 {
-    eco_ids::laws::runs_keep_lawful();
-    apply_one(world, command, outcomes);
-    let Some((id, more)) = command.run() else {
-        return first;
-    };
-    let end = first + more;
-    world.apply_sets(id, &sets[first..end], outcomes);
-    end
+    commands_are_done_in_turn();
+    match command {
+        Recorded::Create(entity) => outcomes.push(world.apply_create(*entity)),
+        Recorded::Add(entity, id) => outcomes.push(world.apply_add(*entity, *id)),
+        Recorded::Remove(entity, id) => outcomes.push(world.apply_remove(*entity, *id)),
+        Recorded::Set(width, count, id, first) => {
+            let end = *first + *count as usize;
+            match width {
+                Width::One => world.apply_ones(*id, &kept.ones[*first..end], outcomes),
+                Width::Three => world.apply_threes(*id, &kept.threes[*first..end], outcomes),
+                Width::Eight => world.apply_eights(*id, &kept.eights[*first..end], outcomes),
+            }
+        }
+        Recorded::Clear(entity) => outcomes.push(world.apply_clear(*entity)),
+        Recorded::Rename(entity, place) => {
+            let name = kept.names[*place].as_deref();
+            outcomes.push(world.apply_rename(*entity, name));
+        }
+        Recorded::Delete(entity) => outcomes.push(world.apply_delete(*entity)),
+        Recorded::DeleteWith(id) => outcomes.push(world.apply_delete_with(*id)),
+        Recorded::RemoveAll(id) => outcomes.push(world.apply_remove_all(*id)),
+    }
 }
 
-// The commands are done, one after another and each with the sets of its run, and their outcomes appended.
+// What is recorded is done, and its outcomes appended.
+#[inline(always)]
+fn apply<W: MergeTarget>(world: &mut W, command: &Recorded, kept: &Kept, outcomes: &mut Outcomes)
+    requires kept { SpeaksOfKept kept.now command.now }
+    requires room { length outcomes.old.outcomes + length (commands_at kept.now command.now)
+        ≤ outcomes.old.room }
+    ensures { AreDone (W.world world.old) (commands_at kept.now command.now)
+        outcomes.old outcomes.new (W.world world.new) }
+{
+    commands_are_done_in_turn();
+    match command {
+        Recorded::Create(entity) => outcomes.push(world.apply_create(*entity)),
+        Recorded::Add(entity, id) => outcomes.push(world.apply_add(*entity, *id)),
+        _ => apply_rest(world, command, kept, outcomes),
+    }
+}
+
+// The commands are done, one after another, and their outcomes appended.
 fn apply_each<W: MergeTarget>(
     world: &mut W,
     commands: &[Recorded],
-    sets: &[RunSet],
+    kept: &Kept,
     outcomes: &mut Outcomes,
 )
-    requires sets { sets_in (map counted_command commands.now) ≡ length sets.now }
-    requires room { length outcomes.old.outcomes + length (commands_of commands.now sets.now)
+    requires kept { All (SpeaksOfKept kept.now) commands.now }
+    requires room { length outcomes.old.outcomes + length (commands_of kept.now commands.now)
         ≤ outcomes.old.room }
-    ensures { AreDone (W.world world.old) (commands_of commands.now sets.now) outcomes.old outcomes.new
+    ensures { AreDone (W.world world.old) (commands_of kept.now commands.now) outcomes.old outcomes.new
         (W.world world.new) }
 {
     eco_ids::laws::runs_keep_lawful();
-    let mut done = 0;
     for command in commands {
-        done = apply_next(world, command, sets, done, outcomes);
+        apply(world, command, kept, outcomes);
     }
 }
 
@@ -99,8 +158,8 @@ pub fn apply_stages<W: MergeTarget>(world: &mut W, stages: &[Stage], outcomes: &
 {
     eco_ids::laws::runs_keep_lawful();
     for stage in stages {
-        let (commands, sets) = stage.recorded();
-        apply_each(world, commands, sets, outcomes);
+        let (commands, kept) = stage.recorded();
+        apply_each(world, commands, kept, outcomes);
     }
 }
 

@@ -63,7 +63,7 @@ impl Outcomes {
     }
 
     /// The outcome comes last, in room that is there. It takes no memory.
-    #[inline]
+    #[inline(always)]
     pub fn push(&mut self, outcome: Result<(), Refusal>)
         requires { length self.old.outcomes < self.old.room }
         ensures written { self.new.outcomes ≡ self.old.outcomes ++ outcome ∷ [] }

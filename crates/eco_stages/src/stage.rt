@@ -1,12 +1,14 @@
 //! A list of commands.
-ghost use Rattle.std.specs.Prelude.{◌≡◌, ◌==◌, ◌+◌, ◌<◌, ◌≤◌, ◌++◌, ◌∷◌, [], IfErr, IsFalse, IsTrue, OnErr, OnOk, length, map, take, vec_capacity, vec_len};
+ghost use Rattle.std.specs.Prelude.{◌≡◌, ◌==◌, ◌+◌, ◌-◌, ◌<◌, ◌≤◌, ◌^◌, ◌++◌, ◌∷◌, [], All, IfErr, IsFalse, IsTrue, OnErr, OnOk, length, map, vec_capacity, vec_len};
+ghost use Rattle.eco_ids.specs.Run as run;
 ghost use Rattle.eco_ids.specs.Run.{Set};
 ghost use Rattle.eco_stages.specs.Commands.{command_of};
-ghost use Rattle.eco_stages.specs.Recorded.{OwnNothing, commands_of, counted_command, sets_in};
+ghost use Rattle.eco_stages.specs.Recorded.{SpeaksOfKept, StandsAlone, commands_of, moved_by};
 
 use crate::command::Command;
+use crate::kept::{Kept, has_room};
 use crate::recorded::Recorded;
-use crate::run_set::{RunSet, run_set};
+use crate::width::Width;
 use eco_ids::{Entity, Id, Value};
 use std::alloc::{AllocError, Global};
 use std::marker::Model;
@@ -16,49 +18,35 @@ use std::marker::Model;
 #[derive(Debug)]
 pub struct Stage {
     commands: Vec<Recorded>,
-    // The sets that follow others of the same id, those of the first run first.
-    sets: Vec<RunSet>,
-    // Whether one of them may own memory, which must be given up before it goes.
-    has_owners: bool,
+    // What they speak of.
+    kept: Kept,
+    // How many commands there are, each set of a run counted.
+    count: usize,
 }
 
-// By hand, as commands don't give up what they own.
+// By hand, so that dropping it is one call: a derived drop is proved anew at each early return of whoever holds it.
 impl Drop for Stage {
     fn drop(self) {
         let Stage {
-            mut commands,
-            sets: _,
-            has_owners,
+            commands: _,
+            kept: _,
+            count: _,
         } = self;
-        if has_owners {
-            give_up_past(&mut commands, 0);
-        }
-    }
-}
-
-// Takes the commands past so many out, and gives up what they own.
-#[cold]
-#[inline(never)]
-fn give_up_past(commands: &mut Vec<Recorded>, count: usize)
-    ensures { commands.new.items ≡ take count commands.old.items }
-{
-    while commands.len() > count {
-        commands.take_last().give_up();
     }
 }
 
 impl Model for Stage {
-    ghost use Rattle.std.specs.Prelude.{◌≡◌, List, length, map};
+    ghost use Rattle.std.specs.Prelude.{◌≡◌, All, List, length};
     ghost use Rattle.eco_ids.specs.Run.{Command};
-    ghost use Rattle.eco_stages.specs.Recorded.{OwnNothing, commands_of, counted_command, sets_in};
+    ghost use Rattle.eco_stages.specs.Recorded.{SpeaksOfKept, commands_of};
 
     ghost Value = { List Command };
 
-    ghost view = { λ s. commands_of s.commands.items s.sets.items };
+    ghost view = { λ s. commands_of s.kept s.commands.items };
 
     ghost invariant = { λ s. record {
-      owners : OwnNothing s.has_owners s.commands.items;
-      sets : sets_in (map counted_command s.commands.items) ≡ length s.sets.items;
+      kept : All (SpeaksOfKept s.kept) s.commands.items;
+      count : s.count ≡ length (commands_of s.kept s.commands.items);
     } };
 }
 
@@ -69,8 +57,8 @@ impl Stage {
     {
         Stage {
             commands: Vec::new(alloc),
-            sets: Vec::new(alloc),
-            has_owners: false,
+            kept: Kept::new(alloc),
+            count: 0,
         }
     }
 
@@ -81,83 +69,147 @@ impl Stage {
         ensures back { IfErr result (λ refused. refused ≡ command) }
         ensures err { OnErr result (self.new ≡ self.old) }
     {
-        if let Command::Set(entity, id, value) = &command {
-            if self.record_in_run(*entity, *id, *value) {
-                return Ok(());
-            }
-        }
-        self.record_apart(command)
-    }
-
-    // The command comes last, and no set of its run follows it.
-    #[inline(always)]
-    fn record_apart(&mut self, command: Command) -> Result<(), Command>
-        ensures ok { OnOk result (self.new ≡ self.old ++ command_of command ∷ []) }
-        ensures back { IfErr result (λ refused. refused ≡ command) }
-        ensures err { OnErr result (self.new ≡ self.old) }
-    {
-        if !has_room(&mut self.commands) {
+        // So many that they can't be counted have no room either.
+        if self.count == usize::MAX {
             return Err(command);
         }
-        let recorded = Recorded::of(*self.commands.allocator(), command)?;
-        self.has_owners |= recorded.is_owner();
-        self.commands.push_reserved(recorded);
-        Ok(())
+        if self.record_unnamed(&command) {
+            return Ok(());
+        }
+        match command {
+            Command::Rename(entity, name) => self.record_rename(entity, name),
+            refused => Err(refused),
+        }
     }
 
-    // The set comes last in the run of the last command, where that is a set of the same id and there is room. The answer is
-    // whether it does; else the stage is as it was.
+    // The command comes last, unless it is a rename or no memory is left for it. The answer is whether it does; else the
+    // stage is as it was.
     #[inline(always)]
-    fn record_in_run(&mut self, entity: Entity, id: Id, value: Value) -> bool
-        ensures yes { IsTrue result → self.new ≡ self.old ++ Set entity id value ∷ [] }
+    fn record_unnamed(&mut self, command: &Command) -> bool
+        requires { length self.old < 2 ^ 64 - 1 }
+        ensures yes { IsTrue result → self.new ≡ self.old ++ command_of command.now ∷ [] }
         ensures no { IsFalse result → self.new ≡ self.old }
     {
-        let Some(set) = run_set(entity, value) else {
-            return false;
-        };
-        let Some(last) = self.commands.last_mut() else {
-            return false;
-        };
-        if !last.has_run_of(id) || !has_room(&mut self.sets) {
+        if let Command::Set(entity, id, value) = command {
+            return self.record_in_run(*entity, *id, *value)
+                || self.record_run(*entity, *id, *value);
+        }
+        match Recorded::of(command) {
+            Some(recorded) => self.record_plain(recorded),
+            None => false,
+        }
+    }
+
+    // The command comes last, with nothing apart. The answer is whether it does; else the stage is as it was.
+    #[inline(always)]
+    fn record_plain(&mut self, recorded: Recorded) -> bool
+        requires few { length self.old < 2 ^ 64 - 1 }
+        requires plain { (c : run.Command) × StandsAlone c recorded }
+        ensures yes { IsTrue result → (c : run.Command) → StandsAlone c recorded
+            → self.new ≡ self.old ++ c ∷ [] }
+        ensures no { IsFalse result → self.new ≡ self.old }
+    {
+        if !has_room(&mut self.commands) {
             return false;
         }
-        last.lengthen();
-        self.sets.push_reserved(set);
+        self.commands.push_reserved(recorded);
+        self.count += 1;
         true
     }
 
-    /// The commands as they are kept, in their order, and the sets of their runs.
-    pub fn recorded(&self) -> (&[Recorded], &[RunSet])
-        ensures all { commands_of result.0.now result.1.now ≡ self.now }
-        ensures sets { sets_in (map counted_command result.0.now) ≡ length result.1.now }
+    // The set comes last in the run of the last command, where that is one of the same id, and keeps the value whole. The answer is
+    // whether it does; else the stage is as it was.
+    #[inline(always)]
+    fn record_in_run(&mut self, entity: Entity, id: Id, value: Value) -> bool
+        requires { length self.old < 2 ^ 64 - 1 }
+        ensures yes { IsTrue result → self.new ≡ self.old ++ Set entity id value ∷ [] }
+        ensures no { IsFalse result → self.new ≡ self.old }
     {
-        (self.commands.as_slice(), self.sets.as_slice())
+        let Some(last) = self.commands.last_mut() else {
+            return false;
+        };
+        let Some(width) = last.open_run(id, &self.kept) else {
+            return false;
+        };
+        if !width.keeps(value) {
+            return false;
+        }
+        if !self.kept.push_set(width, entity, value) {
+            return false;
+        }
+        last.lengthen();
+        self.count += 1;
+        true
+    }
+
+    // The set comes last, and is the first of a run. The answer is whether it does; else the stage is as it was.
+    #[inline(always)]
+    fn record_run(&mut self, entity: Entity, id: Id, value: Value) -> bool
+        requires { length self.old < 2 ^ 64 - 1 }
+        ensures yes { IsTrue result → self.new ≡ self.old ++ Set entity id value ∷ [] }
+        ensures no { IsFalse result → self.new ≡ self.old }
+    {
+        let width = Width::of(value);
+        let first = self.kept.count(width);
+        if !has_room(&mut self.commands) {
+            return false;
+        }
+        if !self.kept.push_set(width, entity, value) {
+            return false;
+        }
+        let run = Recorded::Set(width, 1, id, first);
+        self.commands.push_reserved(run);
+        self.count += 1;
+        true
+    }
+
+    // The rename comes last. Where no memory is left for it, it is handed back and the stage is as it was.
+    #[inline(never)]
+    fn record_rename(&mut self, entity: Entity, name: Option<String>) -> Result<(), Command>
+        requires { length self.old < 2 ^ 64 - 1 }
+        ensures ok { OnOk result (self.new ≡ self.old ++ command_of (Command.Rename entity name) ∷ []) }
+        ensures back { IfErr result (λ refused. refused ≡ Command.Rename entity name) }
+        ensures err { OnErr result (self.new ≡ self.old) }
+    {
+        if !has_room(&mut self.commands) || !has_room(&mut self.kept.names) {
+            return Err(Command::Rename(entity, name));
+        }
+        let place = self.kept.names.len();
+        self.kept.names.push_reserved(name);
+        self.commands.push_reserved(Recorded::Rename(entity, place));
+        self.count += 1;
+        Ok(())
+    }
+
+    /// The commands as they are kept, in their order, and what they speak of.
+    pub fn recorded(&self) -> (&[Recorded], &Kept)
+        ensures all { commands_of result.1.now result.0.now ≡ self.now }
+        ensures kept { All (SpeaksOfKept result.1.now) result.0.now }
+    {
+        (self.commands.as_slice(), &self.kept)
     }
 
     /// How many commands there are.
     pub fn len(&self) -> usize
         ensures { result ≡ length self.now }
     {
-        self.commands.len() + self.sets.len()
+        self.count
     }
 
     /// Whether there is none.
     pub fn is_empty(&self) -> bool
         ensures { result ≡ (length self.now == 0) }
     {
-        self.len() == 0
+        self.count == 0
     }
 
     /// Takes all commands out, as after a merge of them. The memory stays for those of the next frame.
     pub fn clear(&mut self)
         ensures { self.new ≡ [] }
     {
-        if self.has_owners {
-            give_up_past(&mut self.commands, 0);
-            self.has_owners = false;
-        }
         self.commands.clear();
-        self.sets.clear();
+        self.kept.clear();
+        self.count = 0;
     }
 
     /// The other stage's commands come last, in their order, each copied. An `Err` comes where memory is refused, and leaves the
@@ -166,59 +218,33 @@ impl Stage {
         ensures ok { OnOk result (self.new ≡ self.old ++ other.now) }
         ensures err { OnErr result (self.new ≡ self.old) }
     {
+        let Some(sum) = self.count.checked_add(other.count) else {
+            return Err(AllocError);
+        };
         let count = self.commands.len();
         self.commands.reserve(other.commands.len())?;
-        self.sets.reserve(other.sets.len())?;
-        if let Err(refused) = push_copies(
+        push_moved(
             &mut self.commands,
-            &mut self.has_owners,
+            &self.kept,
             other.commands.as_slice(),
-        ) {
-            give_up_past(&mut self.commands, count);
+            &other.kept,
+        );
+        if let Err(refused) = self.kept.push_copies(&other.kept) {
+            self.commands.truncate(count);
             return Err(refused);
         }
-        push_sets(&mut self.sets, other.sets.as_slice());
+        self.count = sum;
         Ok(())
     }
 }
 
-// Whether there is room for one more. It is asked for only where there is none: to ask is a call.
-#[inline(always)]
-fn has_room<T: Drop>(list: &mut Vec<T>) -> bool
-    ensures same { list.new.items ≡ list.old.items }
-    ensures room { IsTrue result → vec_len list.new < vec_capacity list.new }
-{
-    list.len() < list.capacity() || list.reserve(1).is_ok()
-}
-
-// The sets come last, in room that is there.
-fn push_sets(list: &mut Vec<RunSet>, sets: &[RunSet])
-    requires { vec_len list.old + length sets.now ≤ vec_capacity list.old }
-    ensures { list.new.items ≡ list.old.items ++ sets.now }
-{
-    for set in sets {
-        list.push_reserved(*set);
-    }
-}
-
-// Copies of the commands come last, in room that is there. An `Err` leaves those that were copied until then.
-fn push_copies(
-    list: &mut Vec<Recorded>,
-    has_owners: &mut bool,
-    commands: &[Recorded],
-) -> Result<(), AllocError>
+// The commands of another stage come last, moved behind what is kept, in room that is there.
+fn push_moved(list: &mut Vec<Recorded>, own: &Kept, commands: &[Recorded], other: &Kept)
     requires room { vec_len list.old + length commands.now ≤ vec_capacity list.old }
-    requires owners { OwnNothing has_owners.old list.old.items }
-    ensures ok { OnOk result (map counted_command list.new.items
-        ≡ map counted_command list.old.items ++ map counted_command commands.now) }
-    ensures err { OnErr result (take (vec_len list.old) list.new.items ≡ list.old.items) }
-    ensures owners { OwnNothing has_owners.new list.new.items }
+    requires kept { All (SpeaksOfKept other.now) commands.now }
+    ensures { list.new.items ≡ list.old.items ++ map (moved_by own.now) commands.now }
 {
-    let alloc = *list.allocator();
     for command in commands {
-        let copy = command.try_copy(alloc)?;
-        *has_owners |= copy.is_owner();
-        list.push_reserved(copy);
+        list.push_reserved(command.moved(own, other));
     }
-    Ok(())
 }

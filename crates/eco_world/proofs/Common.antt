@@ -75,7 +75,7 @@ pub use Rattle.eco_ids.specs.declared.value.Value.{Value}
 pub use Rattle.eco_query.specs.Queries.{QuerySlot, exactly, holds, matches_type}
 pub use Rattle.eco_stages.specs.Merging.{AreDone, all_commands, has_commands}
 pub use Rattle.eco_stages.specs.Outcomes.{Outcomes, Written}
-pub use Rattle.eco_stages.specs.Recorded.{commands_of, recorded_command}
+pub use Rattle.eco_stages.specs.Recorded.{commands_of}
 pub use Rattle.eco_places.specs.Holders.{entities_with, has_match}
 pub use Rattle.eco_store.specs.Lent.{KeepData, KeepsData}
 pub use Rattle.eco_places.specs.Shown.{IsShown, Stands}

@@ -14,7 +14,7 @@ mod world;
 
 pub use eco_answers::Results;
 pub use eco_query::{Access, Query, Slot, Term};
-pub use eco_stages::{Command, Recorded, Report, RunSet, Stage};
+pub use eco_stages::{Command, Kept, Recorded, Report, RunSet, Stage, Width};
 pub use eco_tables::Values;
 pub use entity_ref::EntityRef;
 pub use query_id::QueryId;

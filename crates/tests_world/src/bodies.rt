@@ -44,18 +44,19 @@ fn record(script: &Script, stage: &mut Stage) -> Result<(), Refusal> {
     script.record(&row, &mut Dry(false), stage)
 }
 
-// Whether the command is the set of that row.
-fn is_set(command: &Recorded) -> bool {
-    match command.as_set() {
-        Some((entity, _, value)) => entity.is(at(13)) && value == Value::of([7]),
+// Whether it is the set of that row.
+fn is_set(set: Option<(Entity, Value)>) -> bool {
+    match set {
+        Some((entity, value)) => entity.is(at(13)) && value == Value::of([7]),
         None => false,
     }
 }
 
 // Whether the stage has the set of that row alone.
 fn has_set(stage: &Stage) -> bool {
-    match stage.recorded().0 {
-        [command] => is_set(command),
+    let (commands, kept) = stage.recorded();
+    match commands {
+        [Recorded::Set(width, 1, _, first)] => is_set(kept.set_at(*width, *first)),
         _ => false,
     }
 }

@@ -4,7 +4,7 @@ use crate::plans::{Deeds, FramePlan};
 use eco_bodies::Action;
 use eco_ids::{Entity, FIELD_COUNT, Id, Refusal, Value};
 use eco_systems::{PHASES, Phase};
-use eco_world::{Command, Report, Row, RunSet, Stage, World};
+use eco_world::{Command, Kept, Recorded, Report, Row, Stage, Width, World};
 use std::alloc::{AllocError, Global};
 
 /// A command that was merged: what it does, if that is a deed, and whether it was done.
@@ -77,24 +77,33 @@ pub fn number_of(outcome: Result<(), Refusal>) -> u8 {
     }
 }
 
-// What the sets of a run do.
-fn add_run(deeds: &mut Vec<Option<Deed>>, id: Id, sets: &[RunSet]) -> Result<(), AllocError> {
-    for set in sets {
-        let holder = set.0;
-        deeds.push(Some(Deed::Set(Had { holder, id })))?;
+// What so many sets of a run do, from a place on.
+fn add_run(
+    deeds: &mut Vec<Option<Deed>>,
+    kept: &Kept,
+    width: Width,
+    id: Id,
+    first: usize,
+    count: usize,
+) -> Result<(), AllocError> {
+    for place in 0..count {
+        let place = first.wrapping_add(place);
+        if let Some((holder, _)) = kept.set_at(width, place) {
+            deeds.push(Some(Deed::Set(Had { holder, id })))?;
+        }
     }
     Ok(())
 }
 
 // What each command of a stage does, if that is a deed, in order.
 fn deeds_of(alloc: Global, stage: &Stage) -> Result<Vec<Option<Deed>>, AllocError> {
-    let (commands, mut sets) = stage.recorded();
+    let (commands, kept) = stage.recorded();
     let mut deeds = Vec::with_capacity(alloc, stage.len())?;
     for command in commands {
-        deeds.push(Deed::of(command))?;
-        if let Some((id, more)) = command.run() {
-            add_run(&mut deeds, id, sets.get(..more).unwrap_or(&[]))?;
-            sets = sets.get(more..).unwrap_or(&[]);
+        if let Recorded::Set(width, count, id, first) = command {
+            add_run(&mut deeds, kept, *width, *id, *first, usize::from(*count))?;
+        } else {
+            deeds.push(Deed::of(command))?;
         }
     }
     Ok(deeds)

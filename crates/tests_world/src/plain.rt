@@ -63,18 +63,10 @@ pub enum Deed {
 }
 
 impl Deed {
-    /// What a command does, if that is any of these.
+    /// What a command does, if that is any of these and no run of sets.
     pub fn of(command: &Recorded) -> Option<Deed> {
         match command {
             Recorded::Add(holder, id) => Some(Deed::Add(Had {
-                holder: *holder,
-                id: *id,
-            })),
-            Recorded::Set(_, holder, id, _) => Some(Deed::Set(Had {
-                holder: *holder,
-                id: *id,
-            })),
-            Recorded::SetWide(holder, id, _) => Some(Deed::Set(Had {
                 holder: *holder,
                 id: *id,
             })),
@@ -86,7 +78,7 @@ impl Deed {
             Recorded::RemoveAll(id) => Some(Deed::RemoveAll(*id)),
             Recorded::Delete(entity) => Some(Deed::Delete(*entity)),
             Recorded::DeleteWith(id) => Some(Deed::DeleteWith(*id)),
-            Recorded::Create(_) | Recorded::Rename(_, _) => None,
+            Recorded::Create(_) | Recorded::Set(_, _, _, _) | Recorded::Rename(_, _) => None,
         }
     }
 

@@ -2,19 +2,29 @@
 ghost use Rattle.std.specs.Prelude.{◌≡◌, ◌+◌, ◌≤◌, ◌<◌, ◌&&◌, ◌∷◌, [], drop, IfSome, nat_lt, length, map, take};
 ghost use Rattle.eco_ids.specs.Births.{Admits, MakesAlive, may_admit, may_make_alive};
 ghost use Rattle.eco_ids.specs.Outcome.{Meets};
-ghost use Rattle.eco_ids.specs.Run.{Applies, may_want};
 ghost use Rattle.eco_ids.specs.World.{entities, OnEntities};
+ghost use Rattle.eco_ids.specs.declared.value.TheConstants.{FIELD_COUNT};
 ghost use Rattle.eco_stages.specs.Merging.{all_commands, AreDone};
-ghost use Rattle.eco_stages.specs.Recorded.{recorded_command, set_of_run};
+ghost use Rattle.eco_stages.specs.Recorded.{set_of_run};
 ghost use Rattle.eco_world.specs.Merging.{Merges, may_merge};
 ghost use Rattle.eco_world.specs.Setting.{IsSettable};
 
 use crate::world::World;
 use eco_ids::{Entity, Id, Refusal, Value};
-use eco_stages::{MergeTarget, Outcomes, Recorded, Report, RunSet, Stage, apply_stages, room_for};
+use eco_stages::{MergeTarget, Outcomes, Report, RunSet, Stage, apply_stages, room_for};
 
 // So many sets at most are done before rows are looked for again, where none or one stood in such.
 const APART: usize = 16;
+
+// What is guessed of the sets of a run that are left: a guess that is wrong takes longer, and nothing else, so no contract
+// speaks of it.
+#[derive(Drop)]
+struct Guess {
+    // The place of the id's column in the table of the next one, as it was in the last.
+    near: usize,
+    // So many are done, each by itself, where none or one stands in rows one behind the other.
+    apart: usize,
+}
 
 impl World {
     /// Makes `admitted` more indices known, at generation 0, and then does the commands of all stages, stage by stage and each
@@ -50,13 +60,14 @@ impl World {
     // Sets of a run are done and their outcomes appended: from the first on, as many as write a value where the id is there, of
     // entities that stand in rows one behind the other. The answer is how many. What a pair's mirror may stand against is asked
     // for each set by itself.
-    fn set_rows(
+    fn set_rows<const N: usize>(
         &mut self,
         known: Option<u8>,
         id: Id,
-        sets: &[RunSet],
+        sets: &[RunSet<N>],
         outcomes: &mut Outcomes,
     ) -> usize
+        requires few { N ≤ FIELD_COUNT }
         requires known { IfSome known (IsSettable self.old id) }
         requires room { length outcomes.old.outcomes + length sets.now ≤ outcomes.old.room }
         ensures within { result ≤ length sets.now }
@@ -78,15 +89,15 @@ impl World {
     // Sets of a run are done and their outcomes appended: from the first on, at least one. The answer is how many. Where at most
     // one stands in rows one behind the other, so many are done each by itself, and twice as many the next time: so rows are not
     // looked for at each set of those that come in another order.
-    fn set_some(
+    fn set_some<const N: usize>(
         &mut self,
         known: &mut Option<u8>,
-        near: &mut usize,
-        apart: &mut usize,
+        guess: &mut Guess,
         id: Id,
-        sets: &[RunSet],
+        sets: &[RunSet<N>],
         outcomes: &mut Outcomes,
     ) -> usize
+        requires few { N ≤ FIELD_COUNT }
         requires some { 0 < length sets.now }
         requires known { IfSome known.old (IsSettable self.old id) }
         requires room { length outcomes.old.outcomes + length sets.now ≤ outcomes.old.room }
@@ -99,24 +110,25 @@ impl World {
         eco_stages::laws::commands_are_done_in_turn();
         let count = self.set_rows(*known, id, sets, outcomes);
         if count > 1 {
-            *apart = 1;
+            guess.apart = 1;
             return count;
         }
-        let most = sets.len().min((*apart).max(1));
-        self.set_each(known, near, id, &sets[count..most], outcomes);
-        *apart = APART.min(most.saturating_mul(2));
+        let most = sets.len().min(guess.apart.max(1));
+        self.set_each(known, &mut guess.near, id, &sets[count..most], outcomes);
+        guess.apart = APART.min(most.saturating_mul(2));
         most
     }
 
     // Sets of a run are done, each by itself, and their outcomes appended: all of them.
-    fn set_each(
+    fn set_each<const N: usize>(
         &mut self,
         known: &mut Option<u8>,
         near: &mut usize,
         id: Id,
-        sets: &[RunSet],
+        sets: &[RunSet<N>],
         outcomes: &mut Outcomes,
     )
+        requires few { N ≤ FIELD_COUNT }
         requires known { IfSome known.old (IsSettable self.old id) }
         requires room { length outcomes.old.outcomes + length sets.now ≤ outcomes.old.room }
         ensures done { AreDone self.old (map (set_of_run id) sets.now) outcomes.old outcomes.new self.new }
@@ -130,14 +142,15 @@ impl World {
 
     // A set of a run is done, and its outcome appended.
     #[inline(always)]
-    fn set_in_run(
+    fn set_in_run<const N: usize>(
         &mut self,
         known: &mut Option<u8>,
         near: &mut usize,
         id: Id,
-        set: &RunSet,
+        set: &RunSet<N>,
         outcomes: &mut Outcomes,
     )
+        requires few { N ≤ FIELD_COUNT }
         requires known { IfSome known.old (IsSettable self.old id) }
         requires room { length outcomes.old.outcomes < outcomes.old.room }
         ensures done { AreDone self.old (set_of_run id set.now ∷ []) outcomes.old outcomes.new self.new }
@@ -161,24 +174,36 @@ impl World {
         self.store.make_alive(entity)
     }
 
-    // What `apply` does, also with a command that is rare in long stages. Apart, so that what these keep takes no room where
-    // entities come and get ids.
-    #[inline(never)]
-    fn apply_rest(&mut self, command: &Recorded) -> Result<(), Refusal>
-        ensures { Meets (Applies (recorded_command command.now) self.old)
-            (may_want (recorded_command command.now) self.old) self.old result self.new }
+    // A run of sets of the id is done, one after another, and their outcomes appended. One by itself needs nothing that serves for
+    // many.
+    #[inline(always)]
+    fn apply_run<const N: usize>(&mut self, id: Id, sets: &[RunSet<N>], outcomes: &mut Outcomes)
+        requires few { N ≤ FIELD_COUNT }
+        requires room { length outcomes.old.outcomes + length sets.now ≤ outcomes.old.room }
+        ensures { AreDone self.old (map (set_of_run id) sets.now) outcomes.old outcomes.new self.new }
     {
-        match command {
-            Recorded::Create(entity) => self.make_alive(*entity),
-            Recorded::Add(entity, id) => self.add(*entity, *id),
-            Recorded::Remove(entity, id) => self.remove(*entity, *id),
-            Recorded::Set(_, entity, id, fields) => self.set(*entity, *id, Value::of(*fields)),
-            Recorded::SetWide(entity, id, value) => self.set(*entity, *id, ***value),
-            Recorded::Clear(entity) => self.clear(*entity),
-            Recorded::Rename(entity, name) => self.rename(*entity, name.as_deref()),
-            Recorded::Delete(entity) => self.delete(*entity),
-            Recorded::DeleteWith(id) => self.delete_with(*id),
-            Recorded::RemoveAll(id) => self.remove_all(*id),
+        eco_stages::laws::commands_are_done_in_turn();
+        if let [set] = sets {
+            outcomes.push(self.set(set.0, id, Value::of(set.1)));
+            return;
+        }
+        self.apply_many(id, sets, outcomes);
+    }
+
+    // What `apply_run` does with many. Apart, so that what these keep takes no room where others are done.
+    #[inline(never)]
+    fn apply_many<const N: usize>(&mut self, id: Id, sets: &[RunSet<N>], outcomes: &mut Outcomes)
+        requires few { N ≤ FIELD_COUNT }
+        requires room { length outcomes.old.outcomes + length sets.now ≤ outcomes.old.room }
+        ensures { AreDone self.old (map (set_of_run id) sets.now) outcomes.old outcomes.new self.new }
+    {
+        eco_stages::laws::commands_are_done_in_turn();
+        let mut known = self.settable(id).ok();
+        let mut guess = Guess { near: 0, apart: 1 };
+        let mut done = 0;
+        while done < sets.len() {
+            let rest = sets_from(sets, done);
+            done += self.set_some(&mut known, &mut guess, id, rest, outcomes);
         }
     }
 }
@@ -186,32 +211,65 @@ impl World {
 impl MergeTarget for World {
     ghost world = { λ w. w };
 
-    fn apply(&mut self, command: &Recorded) -> Result<(), Refusal> {
-        match command {
-            Recorded::Create(entity) => self.make_alive(*entity),
-            Recorded::Add(entity, id) => self.add(*entity, *id),
-            _ => self.apply_rest(command),
-        }
+    #[inline(always)]
+    fn apply_create(&mut self, entity: Entity) -> Result<(), Refusal> {
+        self.make_alive(entity)
     }
 
-    // Apart, so that what sets keep takes no room where others are done.
-    #[inline(never)]
-    fn apply_sets(&mut self, id: Id, sets: &[RunSet], outcomes: &mut Outcomes) {
-        eco_stages::laws::commands_are_done_in_turn();
-        let mut known = self.settable(id).ok();
-        let mut near = 0;
-        let mut apart = 1;
-        let mut done = 0;
-        while done < sets.len() {
-            let rest = sets_from(sets, done);
-            done += self.set_some(&mut known, &mut near, &mut apart, id, rest, outcomes);
-        }
+    #[inline(always)]
+    fn apply_add(&mut self, entity: Entity, id: Id) -> Result<(), Refusal> {
+        self.add(entity, id)
+    }
+
+    #[inline(always)]
+    fn apply_remove(&mut self, entity: Entity, id: Id) -> Result<(), Refusal> {
+        self.remove(entity, id)
+    }
+
+    #[inline(always)]
+    fn apply_clear(&mut self, entity: Entity) -> Result<(), Refusal> {
+        self.clear(entity)
+    }
+
+    #[inline(always)]
+    fn apply_rename(&mut self, entity: Entity, name: Option<&str>) -> Result<(), Refusal> {
+        self.rename(entity, name)
+    }
+
+    #[inline(always)]
+    fn apply_delete(&mut self, entity: Entity) -> Result<(), Refusal> {
+        self.delete(entity)
+    }
+
+    #[inline(always)]
+    fn apply_delete_with(&mut self, id: Id) -> Result<(), Refusal> {
+        self.delete_with(id)
+    }
+
+    #[inline(always)]
+    fn apply_remove_all(&mut self, id: Id) -> Result<(), Refusal> {
+        self.remove_all(id)
+    }
+
+    #[inline(always)]
+    fn apply_ones(&mut self, id: Id, sets: &[RunSet<1>], outcomes: &mut Outcomes) {
+        self.apply_run(id, sets, outcomes);
+    }
+
+    #[inline(always)]
+    fn apply_threes(&mut self, id: Id, sets: &[RunSet<3>], outcomes: &mut Outcomes) {
+        self.apply_run(id, sets, outcomes);
+    }
+
+    #[inline(always)]
+    fn apply_eights(&mut self, id: Id, sets: &[RunSet<8>], outcomes: &mut Outcomes) {
+        self.apply_run(id, sets, outcomes);
     }
 }
 
 // The sets from a place on.
 #[inline(always)]
-fn sets_from(sets: &[RunSet], place: usize) -> &[RunSet]
+fn sets_from<const N: usize>(sets: &[RunSet<N>], place: usize) -> &[RunSet<N>]
     requires { place ≤ length sets.now }
     ensures { result.now ≡ drop place sets.now }
 {

@@ -1,8 +1,9 @@
 //! Sets of values, also of many at one id.
-ghost use Rattle.std.specs.Prelude.{◌≡◌, IfErr, IfOk, IfSome, IsFalse, IsTrue, Ok, OnOk};
+ghost use Rattle.std.specs.Prelude.{◌≡◌, ◌≤◌, IfErr, IfOk, IfSome, IsFalse, IsTrue, Ok, OnOk};
 ghost use Rattle.eco_ids.specs.Outcome.{Meets};
 ghost use Rattle.eco_ids.specs.Step.{Sets, may_set};
 ghost use Rattle.eco_ids.specs.World.{padded};
+ghost use Rattle.eco_ids.specs.declared.value.TheConstants.{FIELD_COUNT};
 ghost use Rattle.eco_world.specs.Actor.{MaySet, MayNotSet};
 ghost use Rattle.eco_world.specs.Setting.{IsSettable, IsUnsettable};
 
@@ -80,13 +81,14 @@ impl World {
 
     // What `set_after` does with a set of a run, apart.
     #[inline(never)]
-    pub(crate) fn set_apart(
+    pub(crate) fn set_apart<const N: usize>(
         &mut self,
         known: &mut Option<u8>,
         id: Id,
-        set: &RunSet,
+        set: &RunSet<N>,
     ) -> Result<(), Refusal>
-        requires { IfSome known.old (IsSettable self.old id) }
+        requires few { N ≤ FIELD_COUNT }
+        requires known { IfSome known.old (IsSettable self.old id) }
         ensures met { Meets (Sets self.old set.now.0 id (padded set.now.1))
             (may_set self.old set.now.0 id (padded set.now.1)) self.old result self.new }
         ensures known { IfSome known.new (IsSettable self.new id) }

@@ -11,7 +11,7 @@ apply_each-requires g c =
     let i = c.loop-stage.stage-index in
     let s = c.stage-item.result in
     let was = c.loop-stage.invariant.are_done in
-    let own : length (commands_of c.recorded.result.0.now c.recorded.result.1.now) ≡ length s = ap length c.recorded.ensures.all in
+    let own : length (commands_of c.recorded.result.1.now c.recorded.result.0.now) ≡ length s = ap length c.recorded.ensures.all in
     let there : length s ≡ length (get_or c.args.stages.now i s) = ap length c.stage-item.is in
     let fits = length-flat_map-take (λ t. t) c.args.stages.now i s c.loop-stage-test.true in
     let more = grown (g.W.MergeTarget.world c.args.world.now) (g.W.MergeTarget.world c.loop-stage.world) (all_commands (take i c.args.stages.now))
@@ -28,7 +28,7 @@ loop-stage-preserved g c =
       are_done =
           rw more
           (both_done c.runs_keep_lawful.ensures.compose (g.W.MergeTarget.world c.args.world.now) (g.W.MergeTarget.world c.loop-stage.world)
-          (g.W.MergeTarget.world c.apply_each.new.world) (all_commands (take i ss)) (commands_of c.recorded.result.0.now c.recorded.result.1.now)
+          (g.W.MergeTarget.world c.apply_each.new.world) (all_commands (take i ss)) (commands_of c.recorded.result.1.now c.recorded.result.0.now)
           c.args.outcomes.now
           c.loop-stage.outcomes c.apply_each.new.outcomes c.loop-stage.invariant.are_done c.apply_each.ensures);
     }

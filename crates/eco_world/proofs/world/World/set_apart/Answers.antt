@@ -4,7 +4,7 @@ use Rattle.eco_ids.specs.Step.{Sets, may_set}
 use Rattle.eco_world.proofs.world.World.set_apart.Goals as goal
 
 pub returns-clause-met : goal.returns-clause-met
-returns-clause-met c =
+returns-clause-met g c =
     let w = c.args.self.now in
     let e = c.args.set.now.0 in
     let i = c.args.id in

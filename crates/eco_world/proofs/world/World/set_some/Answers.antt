@@ -11,30 +11,38 @@ take_up_to n m xs behind within =
     let on : m ≡ n + (m - n) = omega (arith, behind) in
     ap (λ k. take k xs) on ∙ take_on n (m - n) xs (omega (arith, behind, within))
 
-pub set_each-requires-clause-room : goal.set_each-requires-clause-room
-set_each-requires-clause-room c =
+pub set_each-requires : goal.set_each-requires
+set_each-requires g c =
     let n = c.set_rows-count.result in
     let sets = c.args.sets.now in
     let run = set_of_run c.args.id in
     let rows = c.set_rows-count.ensures.done in
     let more = c.commands_are_done_in_turn.ensures.counted c.args.self.now c.set_rows-count.new.self (map run (take n sets)) c.args.outcomes.now
-    c.set_rows-count.new.outcomes rows in
-    omega (
-      arith,
-      more,
-      rows.room,
-      c.requires.room,
-      c.min-most.ensures,
-      c.if-count-gt1.false,
-      c.requires.some,
-      length-map (take n sets) run,
-      length-take-le n sets c.set_rows-count.ensures.within,
-      length-drop n sets,
-      length-take-le (c.min-most.result - n) (drop n sets) (omega (arith, length-drop n sets, c.min-most.ensures)),
+    c.set_rows-count.new.outcomes rows in (
+      omega (arith, c.requires.few),
+      (
+        c.requires.few,
+        (
+          c.set_rows-count.ensures.known,
+          omega (
+            arith,
+            more,
+            rows.room,
+            c.requires.room,
+            c.min-most.ensures,
+            c.if-count-gt1.false,
+            c.requires.some,
+            length-map (take n sets) run,
+            length-take-le n sets c.set_rows-count.ensures.within,
+            length-drop n sets,
+            length-take-le (c.min-most.result - n) (drop n sets) (omega (arith, length-drop n sets, c.min-most.ensures)),
+          ),
+        ),
+      ),
     )
 
 pub returns-clause-done : goal.returns-clause-done
-returns-clause-done c =
+returns-clause-done g c =
     let n = c.set_rows-count.result in
     let m = c.min-most.result in
     let sets = c.args.sets.now in

@@ -1,0 +1,166 @@
+//! What the commands of a stage speak of.
+ghost use Rattle.std.specs.Prelude.{◌≡◌, ◌<◌, ◌≤◌, ◌++◌, ◌∷◌, [], IfOk, IsFalse, IsTrue, OnOk, length, map, option_map, slice_get, string_bytes, take, vec_capacity, vec_len};
+ghost use Rattle.eco_ids.specs.Data.{is_zero_past};
+ghost use Rattle.eco_ids.specs.World.{padded};
+ghost use Rattle.eco_ids.specs.declared.value.TheConstants.{FIELD_COUNT};
+ghost use Rattle.eco_stages.specs.Recorded.{EndsInSet, KeepsBoth, StaysKept, fields_in, names_of, sets_of};
+
+use crate::run_set::RunSet;
+use crate::width::Width;
+use eco_ids::{Entity, Value};
+use std::alloc::{AllocError, Global};
+
+/// The sets and the names that the commands of a stage speak of, each by its place in a list: the sets of values of one
+/// width stand in one, so that a merge reads no more than was recorded.
+#[derive(Debug)]
+pub struct Kept {
+    pub(crate) ones: Vec<RunSet<1>>,
+    pub(crate) threes: Vec<RunSet<3>>,
+    pub(crate) eights: Vec<RunSet<8>>,
+    pub(crate) names: Vec<Option<String>>,
+}
+
+// By hand, so that dropping it is one call: a derived drop is proved anew at each early return of whoever holds it.
+impl Drop for Kept {
+    fn drop(self) {
+        let Kept {
+            ones: _,
+            threes: _,
+            eights: _,
+            names: _,
+        } = self;
+    }
+}
+
+// Whether there is room for one more. It is asked for only where there is none: to ask is a call.
+#[inline(always)]
+pub(crate) fn has_room<T: Drop>(list: &mut Vec<T>) -> bool
+    ensures same { list.new.items ≡ list.old.items }
+    ensures room { IsTrue result → vec_len list.new < vec_capacity list.new }
+{
+    list.len() < list.capacity() || list.reserve(1).is_ok()
+}
+
+// The first fields of a value.
+#[inline(always)]
+fn narrowed<const N: usize>(value: Value) -> [i64; N]
+    requires { N ≤ FIELD_COUNT }
+    ensures { result ≡ take N value.0 }
+{
+    *value.0.first_chunk().unwrap()
+}
+
+// The set comes last, where there is room for it or memory. The answer is whether it does.
+#[inline(always)]
+fn push_narrowed<const N: usize>(list: &mut Vec<RunSet<N>>, entity: Entity, value: Value) -> bool
+    requires { N ≤ FIELD_COUNT }
+    ensures yes { IsTrue result → list.new.items ≡ list.old.items ++ (entity, take N value.0) ∷ [] }
+    ensures no { IsFalse result → list.new.items ≡ list.old.items }
+{
+    if !has_room(list) {
+        return false;
+    }
+    list.push_reserved((entity, narrowed(value)));
+    true
+}
+
+// The set at a place of the list, with zeros behind its fields.
+fn set_in<const N: usize>(list: &[RunSet<N>], place: usize) -> Option<(Entity, Value)>
+    requires { N ≤ FIELD_COUNT }
+    ensures { result ≡ option_map (λ s. (s.0, padded s.1)) (slice_get list.now place) }
+{
+    let set = list.get(place)?;
+    Some((set.0, Value::of(set.1)))
+}
+
+// The name once more.
+fn name_copy(alloc: Global, name: &Option<String>) -> Result<Option<String>, AllocError>
+    ensures { IfOk result (λ copy. option_map string_bytes copy ≡ option_map string_bytes name.now) }
+{
+    match name {
+        Some(name) => Ok(Some(String::from_str(alloc, name.as_str())?)),
+        None => Ok(None),
+    }
+}
+
+// Copies of the names come last. An `Err` may leave some of them.
+fn push_names(list: &mut Vec<Option<String>>, names: &[Option<String>]) -> Result<(), AllocError>
+    ensures ok { OnOk result (map (option_map string_bytes) list.new.items
+        ≡ map (option_map string_bytes) list.old.items ++ map (option_map string_bytes) names.now) }
+    ensures kept { take (vec_len list.old) list.new.items ≡ list.old.items }
+{
+    let alloc = *list.allocator();
+    for name in names {
+        list.push(name_copy(alloc, name)?)?;
+    }
+    Ok(())
+}
+
+impl Kept {
+    // Nothing.
+    pub(crate) fn new(alloc: Global) -> Kept {
+        Kept {
+            ones: Vec::new(alloc),
+            threes: Vec::new(alloc),
+            eights: Vec::new(alloc),
+            names: Vec::new(alloc),
+        }
+    }
+
+    // How many sets of this width there are.
+    #[inline(always)]
+    pub(crate) fn count(&self, width: Width) -> usize
+        ensures { result ≡ length (sets_of width self.now) }
+    {
+        match width {
+            Width::One => self.ones.len(),
+            Width::Three => self.threes.len(),
+            Width::Eight => self.eights.len(),
+        }
+    }
+
+    /// The set of this width that stands at a place: whose value it sets, and the value. None, where there is none.
+    pub fn set_at(&self, width: Width, place: usize) -> Option<(Entity, Value)>
+        ensures { result ≡ option_map (λ s. (s.0, padded s.1)) (slice_get (sets_of width self.now) place) }
+    {
+        match width {
+            Width::One => set_in(self.ones.as_slice(), place),
+            Width::Three => set_in(self.threes.as_slice(), place),
+            Width::Eight => set_in(self.eights.as_slice(), place),
+        }
+    }
+
+    // The set comes last of those of this width, which keeps the value whole. The answer is whether it does: else no memory is
+    // left for it.
+    #[inline(always)]
+    pub(crate) fn push_set(&mut self, width: Width, entity: Entity, value: Value) -> bool
+        requires { IsTrue (is_zero_past (fields_in width) value) }
+        ensures yes { IsTrue result → EndsInSet width entity value self.old self.new }
+        ensures kept { StaysKept self.old self.new }
+    {
+        match width {
+            Width::One => push_narrowed(&mut self.ones, entity, value),
+            Width::Three => push_narrowed(&mut self.threes, entity, value),
+            Width::Eight => push_narrowed(&mut self.eights, entity, value),
+        }
+    }
+
+    // What another keeps comes last, copied. An `Err` comes where memory is refused, and may leave some of it.
+    pub(crate) fn push_copies(&mut self, other: &Kept) -> Result<(), AllocError>
+        ensures ok { OnOk result (KeepsBoth self.old other.now self.new) }
+        ensures kept { StaysKept self.old self.new }
+    {
+        self.ones.extend_from_slice(other.ones.as_slice())?;
+        self.threes.extend_from_slice(other.threes.as_slice())?;
+        self.eights.extend_from_slice(other.eights.as_slice())?;
+        push_names(&mut self.names, other.names.as_slice())
+    }
+
+    // Gives up all of it. The memory of the lists stays.
+    pub(crate) fn clear(&mut self) {
+        self.ones.clear();
+        self.threes.clear();
+        self.eights.clear();
+        self.names.clear();
+    }
+}

@@ -1,0 +1,66 @@
+//! How much of a value is kept.
+ghost use Rattle.std.specs.Prelude.{◌≡◌, ◌≤◌, IsTrue, pos};
+ghost use Rattle.std.specs.List.{list_all};
+ghost use Rattle.std.specs.Ordering.{int_eq};
+ghost use Rattle.eco_ids.specs.Data.{is_zero_past};
+ghost use Rattle.eco_ids.specs.declared.value.TheConstants.{FIELD_COUNT};
+ghost use Rattle.eco_stages.specs.Recorded.{fields_in};
+
+use eco_ids::Value;
+
+/// So many fields of a value are kept with a set, where those behind them are 0: so most sets take a quarter or half of
+/// the room that a whole value would take.
+#[derive(Clone, Copy, Debug, PartialEq, Eq)]
+pub enum Width {
+    /// The first field.
+    One,
+    /// The first three, as of a place in space.
+    Three,
+    /// All eight.
+    Eight,
+}
+
+// Whether all these fields are 0.
+#[inline(always)]
+fn are_zero(fields: &[i64]) -> bool
+    ensures { result ≡ list_all (λ x. int_eq x (pos 0)) fields.now }
+{
+    fields.iter().all(|field| *field == 0)
+}
+
+// Whether the fields past so many are 0.
+#[inline(always)]
+fn has_few(value: Value, count: usize) -> bool
+    requires { count ≤ FIELD_COUNT }
+    ensures { result ≡ is_zero_past count value }
+{
+    are_zero(&value.0[count..])
+}
+
+impl Width {
+    // The least that keeps the value whole.
+    #[inline(always)]
+    pub(crate) fn of(value: Value) -> Width
+        ensures { IsTrue (is_zero_past (fields_in result) value) }
+    {
+        if !has_few(value, 3) {
+            Width::Eight
+        } else if has_few(value, 1) {
+            Width::One
+        } else {
+            Width::Three
+        }
+    }
+
+    // Whether it keeps the value whole.
+    #[inline(always)]
+    pub(crate) fn keeps(self, value: Value) -> bool
+        ensures { IsTrue result → IsTrue (is_zero_past (fields_in self) value) }
+    {
+        match self {
+            Width::One => has_few(value, 1),
+            Width::Three => has_few(value, 3),
+            Width::Eight => true,
+        }
+    }
+}

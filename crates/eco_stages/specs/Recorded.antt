@@ -1,5 +1,5 @@
 -- What a stage keeps of commands means.
-use Rattle.std.specs.Prelude.{◌≡◌, ◌+◌, ◌<◌, ◌≤◌, ◌++◌, ◌∷◌, [], ℕ, ℤ, List, None, Option, drop, flat_map, get_or, length, map, option_map, string_bytes, take}
+use Rattle.std.specs.Prelude.{◌≡◌, ◌+◌, ◌<◌, ◌≤◌, ◌++◌, ◌∷◌, [], ℕ, ℤ, Bool, List, None, Option, drop, flat_map, get_or, length, map, option_map, string_bytes, take, true, false}
 use Rattle.eco_ids.specs.Run as run
 use Rattle.eco_ids.specs.World.{padded}
 use Rattle.eco_ids.specs.declared.entity.Entity.{Entity}
@@ -63,6 +63,12 @@ SpeaksOfKept k (Delete e) = Unit
 SpeaksOfKept k (DeleteWith i) = Unit
 SpeaksOfKept k (RemoveAll i) = Unit
 
+-- it has a value or a name
+abbrev pub speaks_of_kept : run.Command → Bool
+speaks_of_kept (run.Set e i v) = true
+speaks_of_kept (run.Rename e name) = true
+speaks_of_kept _ = false
+
 -- it is this command, whatever is kept
 abbrev pub StandsAlone : run.Command → Recorded → Type 0
 StandsAlone c r = (k : Kept) → (commands_at k r ≡ c ∷ []) × SpeaksOfKept k r
@@ -90,6 +96,11 @@ moved_by k r = r
 pub record StaysKept (old new : Kept) : Type 0 where
   pub sets : (w : Width) → (more : List RunSet) × (sets_of w new ≡ sets_of w old ++ more)
   pub names : (more : List (Option (List ℕ))) × (names_of new ≡ names_of old ++ more)
+
+-- no set and no name
+pub record KeepsNothing (k : Kept) : Type 0 where
+  pub sets : (w : Width) → sets_of w k ≡ []
+  pub names : names_of k ≡ []
 
 -- all that one keeps, and behind it all that another does
 pub record KeepsBoth (own more all : Kept) : Type 0 where

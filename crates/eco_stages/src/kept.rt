@@ -3,7 +3,7 @@ ghost use Rattle.std.specs.Prelude.{◌≡◌, ◌<◌, ◌≤◌, ◌++◌, ◌
 ghost use Rattle.eco_ids.specs.Data.{is_zero_past};
 ghost use Rattle.eco_ids.specs.World.{padded};
 ghost use Rattle.eco_ids.specs.declared.value.TheConstants.{FIELD_COUNT};
-ghost use Rattle.eco_stages.specs.Recorded.{EndsInSet, KeepsBoth, StaysKept, fields_in, names_of, sets_of};
+ghost use Rattle.eco_stages.specs.Recorded.{EndsInSet, KeepsBoth, KeepsNothing, StaysKept, fields_in, names_of, sets_of};
 
 use crate::run_set::RunSet;
 use crate::width::Width;
@@ -98,7 +98,9 @@ fn push_names(list: &mut Vec<Option<String>>, names: &[Option<String>]) -> Resul
 
 impl Kept {
     // Nothing.
-    pub(crate) fn new(alloc: Global) -> Kept {
+    pub(crate) fn new(alloc: Global) -> Kept
+        ensures { KeepsNothing result }
+    {
         Kept {
             ones: Vec::new(alloc),
             threes: Vec::new(alloc),
@@ -157,7 +159,9 @@ impl Kept {
     }
 
     // Gives up all of it. The memory of the lists stays.
-    pub(crate) fn clear(&mut self) {
+    pub(crate) fn clear(&mut self)
+        ensures { KeepsNothing self.new }
+    {
         self.ones.clear();
         self.threes.clear();
         self.eights.clear();

@@ -1,7 +1,8 @@
 //! What a stage keeps of a command.
-ghost use Rattle.std.specs.Prelude.{◌≡◌, IfSome};
+ghost use Rattle.std.specs.Prelude.{◌≡◌, IfNone, IfSome, IsTrue};
 ghost use Rattle.eco_stages.specs.Commands.{command_of};
-ghost use Rattle.eco_stages.specs.Recorded.{HasRoomInRun, SpeaksOfKept, IsOpenRun, StandsAlone, longer_run, moved_by};
+ghost use Rattle.eco_stages.specs.Recorded.{HasRoomInRun, SpeaksOfKept, IsOpenRun, StandsAlone, longer_run, moved_by, speaks_of_kept};
+ghost use Rattle.eco_stages.specs.declared.width.Width.{Width as Widths};
 
 use crate::command::Command;
 use crate::kept::Kept;
@@ -36,7 +37,8 @@ impl Recorded {
     // The command as it is kept. None, where something of it stands apart.
     #[inline(always)]
     pub(crate) fn of(command: &Command) -> Option<Recorded>
-        ensures { IfSome result (λ r. StandsAlone (command_of command.now) r) }
+        ensures some { IfSome result (λ r. StandsAlone (command_of command.now) r) }
+        ensures none { IfNone result (IsTrue (speaks_of_kept (command_of command.now))) }
     {
         Some(match command {
             Command::Create(entity) => Recorded::Create(*entity),
@@ -55,7 +57,8 @@ impl Recorded {
     #[inline(always)]
     pub(crate) fn open_run(&self, id: Id, kept: &Kept) -> Option<Width>
         requires { SpeaksOfKept kept.now self.now }
-        ensures { IfSome result (λ w. IsOpenRun id w kept.now self.now) }
+        ensures some { IfSome result (λ w. IsOpenRun id w kept.now self.now) }
+        ensures none { IfNone result ((w : Widths) → IsOpenRun id w kept.now self.now → ⊥) }
     {
         match self {
             Recorded::Set(width, count, own, first)

@@ -5,6 +5,7 @@ ghost use Rattle.std.specs.Ordering.{int_eq};
 ghost use Rattle.eco_ids.specs.Data.{is_zero_past};
 ghost use Rattle.eco_ids.specs.declared.value.TheConstants.{FIELD_COUNT};
 ghost use Rattle.eco_stages.specs.Recorded.{fields_in};
+ghost use Rattle.eco_stages.specs.declared.width.Width.{Width as Widths};
 
 use eco_ids::Value;
 
@@ -41,7 +42,8 @@ impl Width {
     // The least that keeps the value whole.
     #[inline(always)]
     pub(crate) fn of(value: Value) -> Width
-        ensures { IsTrue (is_zero_past (fields_in result) value) }
+        ensures keeps { IsTrue (is_zero_past (fields_in result) value) }
+        ensures least { (w : Widths) → IsTrue (is_zero_past (fields_in w) value) → fields_in result ≤ fields_in w }
     {
         if !has_few(value, 3) {
             Width::Eight
@@ -55,7 +57,7 @@ impl Width {
     // Whether it keeps the value whole.
     #[inline(always)]
     pub(crate) fn keeps(self, value: Value) -> bool
-        ensures { IsTrue result → IsTrue (is_zero_past (fields_in self) value) }
+        ensures { result ≡ is_zero_past (fields_in self) value }
     {
         match self {
             Width::One => has_few(value, 1),

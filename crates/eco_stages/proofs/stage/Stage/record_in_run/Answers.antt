@@ -39,7 +39,7 @@ module _ (c : goal.After-self-3-1) where
       omega (arith, c.in-Some.ensures.variant.0 refl, counts)
 
   run : IsOpenRun c.args.id c.in-Some-open_run.width c.self.inside.kept c.in-Some.last.now
-  run = c.in-Some-open_run.ensures
+  run = c.in-Some-open_run.ensures.some
 
   ends : EndsInSet c.in-Some-open_run.width c.args.entity c.args.value c.self.inside.kept c.push_set.new.self
   ends = c.push_set.ensures.yes c.if-not-push_set.false

@@ -1,7 +1,7 @@
 //! Who stands in the tables of some slots, by one walk over the indices.
 ghost use Rattle.std.specs.Prelude.{◌≡◌, ◌<◌, ◌≤◌, ◌+◌, ◌-◌, ◌++◌, IfOk, drop, length, vec_capacity, vec_len};
 ghost use Rattle.std.specs.List.{All};
-ghost use Rattle.eco_answers.specs.Ranking.{IsNumbering, IsWalked, standing_at, standing_from};
+ghost use Rattle.eco_answers.specs.Ranking.{AreHoused, IsNumbering, IsWalked, standing_at, standing_from};
 
 use crate::standing::Standing;
 use eco_entities::{EntityIndex, Homes};
@@ -11,7 +11,8 @@ use std::alloc::{AllocError, Global};
 // For each slot below the bound its place among some, counted from 1, and 0 where it is none of them.
 fn numbers_of(alloc: Global, bound: usize, slots: &[TableSlot]) -> Result<Vec<usize>, AllocError>
     requires { All (λ n. n < bound) slots.now }
-    ensures { IfOk result (λ v. IsNumbering slots.now (length slots.now) v.items) }
+    ensures numbering { IfOk result (λ v. IsNumbering slots.now (length slots.now) v.items) }
+    ensures long { IfOk result (λ v. length v.items ≡ bound) }
 {
     let mut numbers = vec![in alloc; 0usize; bound]?;
     for place in 0..slots.len() {
@@ -20,8 +21,8 @@ fn numbers_of(alloc: Global, bound: usize, slots: &[TableSlot]) -> Result<Vec<us
     Ok(numbers)
 }
 
-/// All who stand in the tables of these slots, which lie below the bound, ascending. An index that nobody has costs as much
-/// as one of them. `count` is how many they should be: it saves growths, and decides nothing.
+/// All who stand in the tables of these slots, ascending. The slots lie below the bound, as those of all tables do. An index that
+/// nobody has costs as much as one of them. `count` is how many they should be: it saves growths, and decides nothing.
 pub(crate) fn walked(
     alloc: Global,
     entities: &EntityIndex,
@@ -29,7 +30,8 @@ pub(crate) fn walked(
     slots: &[TableSlot],
     count: usize,
 ) -> Result<Vec<Standing>, AllocError>
-    requires { All (λ n. n < bound) slots.now }
+    requires slots { All (λ n. n < bound) slots.now }
+    requires housed { AreHoused bound entities.now }
     ensures { IfOk result (λ v. IsWalked entities.now slots.now v.items) }
 {
     let numbers = numbers_of(alloc, bound, slots)?;
@@ -47,6 +49,7 @@ fn numbered(
     numbers: &[usize],
     count: usize,
 ) -> Result<Vec<Standing>, AllocError>
+    requires { AreHoused (length numbers.now) entities.now }
     ensures { IfOk result (λ v. v.items ≡ standing_from numbers.now 0 entities.now.indices) }
 {
     let homes = entities.homes();
@@ -72,6 +75,7 @@ fn add_numbered(
     end: u32,
 )
     requires places { (first ≤ end) × (end ≤ length homes.now.indices) }
+    requires housed { AreHoused (length numbers.now) homes.now }
     requires room { vec_len list.old + (end - first) ≤ vec_capacity list.old }
     ensures { list.new.items ++ standing_from numbers.now end (drop end homes.now.indices)
         ≡ list.old.items ++ standing_from numbers.now first (drop first homes.now.indices) }
@@ -86,11 +90,12 @@ fn add_numbered(
 // Who lives at the index, where its table's slot has a number.
 #[inline(always)]
 fn standing_at(homes: &Homes<'_>, numbers: &[usize], index: u32) -> Option<Standing>
-    requires { index < length homes.now.indices }
+    requires known { index < length homes.now.indices }
+    requires housed { AreHoused (length numbers.now) homes.now }
     ensures { result ≡ standing_at numbers.now homes.now index }
 {
     let (entity, place) = homes.at(index)?;
-    let number = *numbers.get(place.table)?;
+    let number = numbers[place.table];
     if number == 0 {
         return None;
     }

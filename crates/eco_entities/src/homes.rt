@@ -1,5 +1,5 @@
 //! Where the living are kept, lent for a walk over many indices.
-ghost use Rattle.std.specs.Prelude.{◌≡◌, ◌<◌, length, option_and_then, option_map};
+ghost use Rattle.std.specs.Prelude.{◌≡◌, ◌<◌, IfSome, IsSome, length, option_and_then, option_map};
 ghost use Rattle.eco_entities.specs.Registration.{entity_at, own_place};
 
 use crate::labels::Labels;
@@ -46,10 +46,11 @@ impl<'a> Homes<'a> {
         }
     }
 
-    /// Who lives at a known index and has a place, and the place.
+    /// Who lives at a known index, which has a place if somebody does, and the place.
     #[inline]
     pub fn at(&self, index: u32) -> Option<(Entity, Place)>
-        requires { index < length self.now.indices }
+        requires known { index < length self.now.indices }
+        requires placed { IfSome (entity_at self.now index) (λ e. IsSome (own_place self.now e)) }
         ensures { result ≡ option_and_then (λ e. option_map (λ p. (e, p)) (own_place self.now e))
             (entity_at self.now index) }
     {
@@ -57,11 +58,10 @@ impl<'a> Homes<'a> {
         if !slot.is_living() {
             return None;
         }
-        let place = slot.place()?;
         let entity = Entity {
             index,
             generation: slot.generation(),
         };
-        Some((entity, place))
+        Some((entity, slot.seat()))
     }
 }

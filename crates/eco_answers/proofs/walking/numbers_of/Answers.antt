@@ -9,6 +9,6 @@ loop-place-preserved c = record {
   long = length-set c.loop-place.numbers.items _ (c.loop-place.place + 1) ∙ c.loop-place.invariant.long;
 }
 
-pub returns : goal.returns
-returns c = let end = c.loop-place-test.false in
+pub returns-clause-numbering : goal.returns-clause-numbering
+returns-clause-numbering c = let end = c.loop-place-test.false in
     subst (λ n. IsNumbering c.args.slots.now n c.loop-place.numbers.items) (omega (arith, end, c.loop-place.auto.place-end)) c.loop-place.invariant.numbering

@@ -7,7 +7,7 @@ use Rattle.std.proofs.lemmas.List.Elements.{All-head, All-map, All-set, All-tail
 use Rattle.std.proofs.lemmas.List.Concat.{flat_map-append}
 use Rattle.std.proofs.Math.ListN.{get_or-append, set}
 use Rattle.std.proofs.Math.Seq.{drop-append-add, drop-append_seam, get_or-append-add, get_or-append_seam}
-use Rattle.std.proofs.lemmas.List.{drop-append-le, length-set, take-append-drop, take-append-le, take_more_set}
+use Rattle.std.proofs.lemmas.List.{drop-append-le, length-set, take-append-le, take_more_set}
 use Rattle.eco_ids.specs.Data.{is_zero_past}
 use Rattle.eco_ids.specs.Run.{Command}
 use Rattle.eco_ids.specs.Run as run
@@ -15,7 +15,7 @@ use Rattle.eco_ids.specs.declared.entity.Entity.{Entity}
 use Rattle.eco_ids.specs.declared.id.Id.{Id}
 use Rattle.eco_ids.specs.declared.value.Value.{Value}
 use Rattle.eco_ids.specs.declared.value.TheConstants.{FIELD_COUNT}
-use Rattle.eco_stages.specs.Recorded.{EndsInSet, SpeaksOfKept, KeepsBoth, StaysKept, RunSet, commands_at, commands_of, fields_in, longer_run}
+use Rattle.eco_stages.specs.Recorded.{EndsInSet, SpeaksOfKept, KeepsBoth, KeepsSame, StaysKept, RunSet, commands_at, commands_of, fields_in}
 use Rattle.eco_stages.specs.Recorded.{moved_by, names_of, set_of_run, sets_of}
 use Rattle.eco_stages.specs.declared.kept.Kept.{Kept}
 use Rattle.eco_stages.specs.declared.recorded.Recorded.{Recorded}
@@ -53,13 +53,6 @@ as_it_was xs = ([], sym (append-nil xs))
 pub unchanged : {X : Type 0} {old new : List X} → new ≡ old → (more : List X) × (new ≡ old ++ more)
 unchanged {X} {old} {new} same = ([], same ∙ sym (append-nil old))
 
--- one that begins as another does, each of its elements as what it is taken for
-pub begins : {X Y : Type 0} (f : X → Y) (n : ℕ) (old new : List X) → take n new ≡ old → (more : List Y) × (map f new ≡ map f old ++ more)
-begins f n old new same = (
-  map f (drop n new),
-  ap (map f) (sym (take-append-drop n new)) ∙ map-append f (take n new) (drop n new) ∙ ap (λ xs. map f xs ++ map f (drop n new)) same,
-)
-
 -- what is kept of each width and of names
 pub all_keep : (old new : Kept) → ((more : List RunSet) × (new.ones.items ≡ old.ones.items ++ more))
     → ((more : List RunSet) × (new.threes.items ≡ old.threes.items ++ more)) → ((more : List RunSet) × (new.eights.items ≡ old.eights.items ++ more))
@@ -71,13 +64,17 @@ all_keep old new ones threes eights names = record { sets = of_width; names = na
     of_width Three = threes
     of_width Eight = eights
 
+-- where all is the same
+pub stays : (old new : Kept) → KeepsSame old new → StaysKept old new
+stays old new same = record { sets = λ w. unchanged (same.sets w); names = unchanged same.names }
+
 -- the last set is that of the value
-pub ends_in_set : (w x : Width) → w ≡ x → (old new : Kept) (e : Entity) (v : Value) → length v.0 ≡ FIELD_COUNT → IsTrue (is_zero_past (fields_in w) v)
+pub ends_in_set : (w x : Width) → w ≡ x → (old new : Kept) (e : Entity) (v : Value) → length v.0 ≡ FIELD_COUNT → IsTrue (is_zero_past (fields_in x) v)
     → sets_of x new ≡ sets_of x old ++ (e, take (fields_in x) v.0) ∷ [] → EndsInSet w e v old new
 ends_in_set w x is old new e v full zeros pushed = (
   take (fields_in x) v.0,
   subst (λ y. sets_of y new ≡ sets_of y old ++ (e, take (fields_in x) v.0) ∷ []) (sym is) pushed,
-  few_kept (fields_in x) v full (subst (λ y. IsTrue (is_zero_past (fields_in y) v)) is zeros),
+  few_kept (fields_in x) v full zeros,
 )
 
 -- the last command
@@ -138,7 +135,7 @@ module _ (old new : Kept) (keeps : StaysKept old new) where
   -- the last run has one set more
   pub one_longer : (rs : List Recorded) (n : ℕ) (r : Recorded) (w : Width) (count : ℕ) (i : Id) (first : ℕ) (s : RunSet) → n + 1 ≡ length rs
       → r ≡ get_or rs n r → r ≡ Set w count i first → first + count ≡ length (sets_of w old) → sets_of w new ≡ sets_of w old ++ s ∷ []
-      → All (SpeaksOfKept old) rs → commands_of new (set rs n (longer_run r)) ≡ commands_of old rs ++ set_of_run i s ∷ []
+      → All (SpeaksOfKept old) rs → commands_of new (set rs n (Set w (count + 1) i first)) ≡ commands_of old rs ++ set_of_run i s ∷ []
   one_longer rs n r w count i first s last is run all pushed within =
       let before = take n rs in
       let own = commands_of old before in
@@ -146,9 +143,8 @@ module _ (old new : Kept) (keeps : StaysKept old new) where
       let longer = Set w (count + 1) i first in
       let was : rs ≡ before ++ Set w count i first ∷ [] =
       sym (take_all (n + 1) rs (omega (arith, last))) ∙ take_more rs n r (omega (arith, last)) ∙ ap (λ x. before ++ x ∷ []) (sym is ∙ run) in
-      let now : set rs n (longer_run r) ≡ before ++ longer ∷ [] =
-      ap (λ x. set rs n (longer_run x)) run
-      ∙ sym (take_all (n + 1) (set rs n longer) (omega (arith, last, length-set rs n longer))) ∙ take_more_set rs n longer (omega (arith, last)) in
+      let now : set rs n longer ≡ before ++ longer ∷ [] =
+      sym (take_all (n + 1) (set rs n longer) (omega (arith, last, length-set rs n longer))) ∙ take_more_set rs n longer (omega (arith, last)) in
       let one : commands_at new longer ≡ map (set_of_run i) sets ++ set_of_run i s ∷ [] =
       ap (λ xs. map (set_of_run i) (take (count + 1) (drop first xs))) pushed
       ∙ ap (map (set_of_run i)) (and_one count first (sets_of w old) s all) ∙ map-append (set_of_run i) sets (s ∷ []) in
@@ -158,12 +154,12 @@ module _ (old new : Kept) (keeps : StaysKept old new) where
       ∙ sym (ap (λ cs. cs ++ set_of_run i s ∷ []) (ap (commands_of old) was ∙ last_of old before (Set w count i first)))
 
   -- and all that it speaks of is kept
-  pub longer_still : (rs : List Recorded) (n : ℕ) (r : Recorded) (w : Width) (count : ℕ) (i : Id) (first : ℕ) (s : RunSet)
-      → r ≡ Set w count i first → first + count ≡ length (sets_of w old) → sets_of w new ≡ sets_of w old ++ s ∷ []
-      → All (SpeaksOfKept old) rs → All (SpeaksOfKept new) (set rs n (longer_run r))
-  longer_still rs n r w count i first s run all pushed within =
+  pub longer_still : (rs : List Recorded) (n : ℕ) (w : Width) (count : ℕ) (i : Id) (first : ℕ) (s : RunSet)
+      → first + count ≡ length (sets_of w old) → sets_of w new ≡ sets_of w old ++ s ∷ []
+      → All (SpeaksOfKept old) rs → All (SpeaksOfKept new) (set rs n (Set w (count + 1) i first))
+  longer_still rs n w count i first s all pushed within =
       let longer : SpeaksOfKept new (Set w (count + 1) i first) = omega (arith, all, ap length pushed, length-append (sets_of w old) (s ∷ [])) in
-      All-set (SpeaksOfKept new) rs n (longer_run r) (subst (λ x. SpeaksOfKept new (longer_run x)) (sym run) longer) (still rs within)
+      All-set (SpeaksOfKept new) rs n (Set w (count + 1) i first) longer (still rs within)
 
 -- a run of one set
 pub first_of : (old new : Kept) (w : Width) (e : Entity) (i : Id) (v : Value) (first : ℕ) → first ≡ length (sets_of w old) → EndsInSet w e v old new

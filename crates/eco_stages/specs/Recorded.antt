@@ -73,19 +73,6 @@ speaks_of_kept _ = false
 abbrev pub StandsAlone : run.Command → Recorded → Type 0
 StandsAlone c r = (k : Kept) → (commands_at k r ≡ c ∷ []) × SpeaksOfKept k r
 
--- a run of sets of the id, the last of which is the last of its width, and which one more may join
-abbrev pub IsOpenRun : Id → Width → Kept → Recorded → Type 0
-IsOpenRun i w k r = (count first : ℕ) × (r ≡ Set w count i first) × (first + count ≡ length (sets_of w k)) × (count < 65535)
-
--- one set more may join it
-abbrev pub HasRoomInRun : Recorded → Type 0
-HasRoomInRun r = (w : Width) × (count : ℕ) × (i : Id) × (first : ℕ) × (r ≡ Set w count i first) × (count < 65535)
-
--- with one set more
-abbrev pub longer_run : Recorded → Recorded
-longer_run (Set w count i first) = Set w (count + 1) i first
-longer_run r = r
-
 -- the same, where what it speaks of is kept behind this
 abbrev pub moved_by : Kept → Recorded → Recorded
 moved_by k (Set w count i first) = Set w count i (length (sets_of w k) + first)
@@ -96,6 +83,11 @@ moved_by k r = r
 pub record StaysKept (old new : Kept) : Type 0 where
   pub sets : (w : Width) → (more : List RunSet) × (sets_of w new ≡ sets_of w old ++ more)
   pub names : (more : List (Option (List ℕ))) × (names_of new ≡ names_of old ++ more)
+
+-- the same sets and names
+pub record KeepsSame (old new : Kept) : Type 0 where
+  pub sets : (w : Width) → sets_of w new ≡ sets_of w old
+  pub names : names_of new ≡ names_of old
 
 -- no set and no name
 pub record KeepsNothing (k : Kept) : Type 0 where

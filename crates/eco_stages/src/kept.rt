@@ -1,12 +1,12 @@
 //! What the commands of a stage speak of.
-ghost use Rattle.std.specs.Prelude.{◌≡◌, ◌<◌, ◌≤◌, ◌++◌, ◌∷◌, [], IfOk, IsFalse, IsTrue, OnOk, length, map, option_map, slice_get, string_bytes, take, vec_capacity, vec_len};
+ghost use Rattle.std.specs.Prelude.{◌≡◌, ◌<◌, ◌≤◌, ◌++◌, ◌∷◌, [], IfOk, IsFalse, IsTrue, OnErr, OnOk, length, map, option_map, slice_get, string_bytes, take, vec_capacity, vec_len};
 ghost use Rattle.eco_ids.specs.Data.{is_zero_past};
 ghost use Rattle.eco_ids.specs.World.{padded};
 ghost use Rattle.eco_ids.specs.declared.value.TheConstants.{FIELD_COUNT};
-ghost use Rattle.eco_stages.specs.Recorded.{EndsInSet, KeepsBoth, KeepsNothing, StaysKept, fields_in, names_of, sets_of};
+ghost use Rattle.eco_stages.specs.Recorded.{EndsInSet, KeepsBoth, KeepsNothing, KeepsSame, StaysKept, fields_in, names_of, sets_of};
 
 use crate::run_set::RunSet;
-use crate::width::Width;
+use crate::width::{Width, has_few};
 use eco_ids::{Entity, Value};
 use std::alloc::{AllocError, Global};
 
@@ -50,13 +50,27 @@ fn narrowed<const N: usize>(value: Value) -> [i64; N]
     *value.0.first_chunk().unwrap()
 }
 
-// The set comes last, where there is room for it or memory. The answer is whether it does.
+// The set comes last, at this place. The answer is whether it does: else the list has another length, its width doesn't keep the
+// value whole, or no memory is left, and it is as it was.
 #[inline(always)]
-fn push_narrowed<const N: usize>(list: &mut Vec<RunSet<N>>, entity: Entity, value: Value) -> bool
+fn push_narrowed<const N: usize>(
+    list: &mut Vec<RunSet<N>>,
+    place: usize,
+    entity: Entity,
+    value: Value,
+) -> bool
     requires { N ≤ FIELD_COUNT }
     ensures yes { IsTrue result → list.new.items ≡ list.old.items ++ (entity, take N value.0) ∷ [] }
+    ensures at { IsTrue result → place ≡ length list.old.items }
+    ensures whole { IsTrue result → IsTrue (is_zero_past N value) }
     ensures no { IsFalse result → list.new.items ≡ list.old.items }
 {
+    if list.len() != place {
+        return false;
+    }
+    if !has_few(value, N) {
+        return false;
+    }
     if !has_room(list) {
         return false;
     }
@@ -83,17 +97,16 @@ fn name_copy(alloc: Global, name: &Option<String>) -> Result<Option<String>, All
     }
 }
 
-// Copies of the names come last. An `Err` may leave some of them.
-fn push_names(list: &mut Vec<Option<String>>, names: &[Option<String>]) -> Result<(), AllocError>
-    ensures ok { OnOk result (map (option_map string_bytes) list.new.items
-        ≡ map (option_map string_bytes) list.old.items ++ map (option_map string_bytes) names.now) }
-    ensures kept { take (vec_len list.old) list.new.items ≡ list.old.items }
+// Copies of the names. An `Err` comes where memory is refused.
+fn names_copied(alloc: Global, names: &[Option<String>]) -> Result<Vec<Option<String>>, AllocError>
+    ensures { IfOk result (λ copies. map (option_map string_bytes) copies.items
+        ≡ map (option_map string_bytes) names.now) }
 {
-    let alloc = *list.allocator();
+    let mut copies = Vec::with_capacity(alloc, names.len())?;
     for name in names {
-        list.push(name_copy(alloc, name)?)?;
+        copies.push(name_copy(alloc, name)?)?;
     }
-    Ok(())
+    Ok(copies)
 }
 
 impl Kept {
@@ -132,30 +145,46 @@ impl Kept {
         }
     }
 
-    // The set comes last of those of this width, which keeps the value whole. The answer is whether it does: else no memory is
-    // left for it.
+    // The set comes last of those of this width, at this place. The answer is whether it does: else there are more or fewer of
+    // them, the width doesn't keep the value whole, or no memory is left, and all is as it was.
     #[inline(always)]
-    pub(crate) fn push_set(&mut self, width: Width, entity: Entity, value: Value) -> bool
-        requires { IsTrue (is_zero_past (fields_in width) value) }
+    pub(crate) fn push_at(
+        &mut self,
+        width: Width,
+        place: usize,
+        entity: Entity,
+        value: Value,
+    ) -> bool
         ensures yes { IsTrue result → EndsInSet width entity value self.old self.new }
+        ensures at { IsTrue result → place ≡ length (sets_of width self.old) }
         ensures kept { StaysKept self.old self.new }
     {
         match width {
-            Width::One => push_narrowed(&mut self.ones, entity, value),
-            Width::Three => push_narrowed(&mut self.threes, entity, value),
-            Width::Eight => push_narrowed(&mut self.eights, entity, value),
+            Width::One => push_narrowed(&mut self.ones, place, entity, value),
+            Width::Three => push_narrowed(&mut self.threes, place, entity, value),
+            Width::Eight => push_narrowed(&mut self.eights, place, entity, value),
         }
     }
 
-    // What another keeps comes last, copied. An `Err` comes where memory is refused, and may leave some of it.
+    // What another keeps comes last, copied. An `Err` comes where memory is refused, and leaves all as it was.
     pub(crate) fn push_copies(&mut self, other: &Kept) -> Result<(), AllocError>
         ensures ok { OnOk result (KeepsBoth self.old other.now self.new) }
-        ensures kept { StaysKept self.old self.new }
+        ensures err { OnErr result (KeepsSame self.old self.new) }
     {
-        self.ones.extend_from_slice(other.ones.as_slice())?;
-        self.threes.extend_from_slice(other.threes.as_slice())?;
-        self.eights.extend_from_slice(other.eights.as_slice())?;
-        push_names(&mut self.names, other.names.as_slice())
+        let mut names = names_copied(*self.names.allocator(), other.names.as_slice())?;
+        self.ones.reserve(other.ones.len())?;
+        self.threes.reserve(other.threes.len())?;
+        self.eights.reserve(other.eights.len())?;
+        self.names.append(&mut names)?;
+        // There is room for these.
+        self.ones.extend_from_slice(other.ones.as_slice()).unwrap();
+        self.threes
+            .extend_from_slice(other.threes.as_slice())
+            .unwrap();
+        self.eights
+            .extend_from_slice(other.eights.as_slice())
+            .unwrap();
+        Ok(())
     }
 
     // Gives up all of it. The memory of the lists stays.

@@ -1,8 +1,7 @@
 //! What a stage keeps of a command.
 ghost use Rattle.std.specs.Prelude.{◌≡◌, IfNone, IfSome, IsTrue};
 ghost use Rattle.eco_stages.specs.Commands.{command_of};
-ghost use Rattle.eco_stages.specs.Recorded.{HasRoomInRun, SpeaksOfKept, IsOpenRun, StandsAlone, longer_run, moved_by, speaks_of_kept};
-ghost use Rattle.eco_stages.specs.declared.width.Width.{Width as Widths};
+ghost use Rattle.eco_stages.specs.Recorded.{SpeaksOfKept, StandsAlone, moved_by, speaks_of_kept};
 
 use crate::command::Command;
 use crate::kept::Kept;
@@ -50,34 +49,6 @@ impl Recorded {
             Command::RemoveAll(id) => Recorded::RemoveAll(*id),
             Command::Set(_, _, _) | Command::Rename(_, _) => return None,
         })
-    }
-
-    // The width of the sets of the run, where it is one of sets of the id, whose last is the last of those that are kept,
-    // and one more may follow.
-    #[inline(always)]
-    pub(crate) fn open_run(&self, id: Id, kept: &Kept) -> Option<Width>
-        requires { SpeaksOfKept kept.now self.now }
-        ensures some { IfSome result (λ w. IsOpenRun id w kept.now self.now) }
-        ensures none { IfNone result ((w : Widths) → IsOpenRun id w kept.now self.now → ⊥) }
-    {
-        match self {
-            Recorded::Set(width, count, own, first)
-                if own.is(id)
-                    && *count < u16::MAX
-                    && *first + *count as usize == kept.count(*width) => { Some(*width) }
-            _ => None,
-        }
-    }
-
-    // One set more is of the run.
-    #[inline(always)]
-    pub(crate) fn lengthen(&mut self)
-        requires { HasRoomInRun self.old }
-        ensures { self.new ≡ longer_run self.old }
-    {
-        if let Recorded::Set(_, count, _, _) = self {
-            *count += 1;
-        }
     }
 
     // The same, where what it speaks of in one stage is kept behind what another keeps.

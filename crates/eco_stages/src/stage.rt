@@ -128,16 +128,20 @@ impl Stage {
         let Some(last) = self.commands.last_mut() else {
             return false;
         };
-        let Some(width) = last.open_run(id, &self.kept) else {
+        let Recorded::Set(width, count, own, first) = last else {
             return false;
         };
-        if !width.keeps(value) {
+        if !own.is(id) {
             return false;
         }
-        if !self.kept.push_set(width, entity, value) {
+        if *count == u16::MAX {
             return false;
         }
-        last.lengthen();
+        let end = *first + *count as usize;
+        if !self.kept.push_at(*width, end, entity, value) {
+            return false;
+        }
+        *count += 1;
         self.count += 1;
         true
     }
@@ -154,7 +158,7 @@ impl Stage {
         if !has_room(&mut self.commands) {
             return false;
         }
-        if !self.kept.push_set(width, entity, value) {
+        if !self.kept.push_at(width, first, entity, value) {
             return false;
         }
         let run = Recorded::Set(width, 1, id, first);

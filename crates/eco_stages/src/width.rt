@@ -31,7 +31,7 @@ fn are_zero(fields: &[i64]) -> bool
 
 // Whether the fields past so many are 0.
 #[inline(always)]
-fn has_few(value: Value, count: usize) -> bool
+pub(crate) fn has_few(value: Value, count: usize) -> bool
     requires { count ≤ FIELD_COUNT }
     ensures { result ≡ is_zero_past count value }
 {
@@ -51,18 +51,6 @@ impl Width {
             Width::One
         } else {
             Width::Three
-        }
-    }
-
-    // Whether it keeps the value whole.
-    #[inline(always)]
-    pub(crate) fn keeps(self, value: Value) -> bool
-        ensures { result ≡ is_zero_past (fields_in self) value }
-    {
-        match self {
-            Width::One => has_few(value, 1),
-            Width::Three => has_few(value, 3),
-            Width::Eight => true,
         }
     }
 }

@@ -4,7 +4,7 @@ use Rattle.std.proofs.lemmas.List.{take-append-le}
 use Rattle.std.proofs.lemmas.List.Concat.{flat_map-append}
 use Rattle.std.proofs.lemmas.List.Elements.{All-append, All-same}
 use Rattle.eco_stages.proofs.Common.{◌≡◌, ◌++◌, ap, arith, length, length-append, sym, take, take_all, vec_len, ◌∙◌}
-use Rattle.eco_stages.proofs.Keeping.{all_moved, all_moved_kept, same, still}
+use Rattle.eco_stages.proofs.Keeping.{all_moved, all_moved_kept, keeps_own, same, stays, still}
 use Rattle.eco_stages.specs.Recorded.{SpeaksOfKept, commands_at, commands_of, moved_by}
 use Rattle.eco_stages.proofs.stage.Stage.record_copies.Goals as goal
 
@@ -24,7 +24,7 @@ invariant_of-self-in-Err c =
     let old = c.self.inside.kept in
     let new = c.push_copies.new.self in
     let items = c.self.inside.commands.items in
-    let keeps = c.push_copies.ensures.kept in
+    let keeps = stays old new c.in-Err.ensures.err in
     record {
       kept = All-same (SpeaksOfKept new) c.truncate.new.self.items items (cut c) (still old new keeps items c.self.invariant.kept);
       count = c.self.invariant.count ∙ ap length (sym (ap (commands_of new) (cut c) ∙ same old new keeps items c.self.invariant.kept));
@@ -34,7 +34,8 @@ pub returns-in-Err-clause-err : goal.returns-in-Err-clause-err
 returns-in-Err-clause-err c =
     let new = c.push_copies.new.self in
     ap (commands_of new) (cut c)
-    ∙ same c.self.inside.kept new c.push_copies.ensures.kept c.self.inside.commands.items c.self.invariant.kept ∙ c.self.view_is
+    ∙ same c.self.inside.kept new (stays c.self.inside.kept new c.in-Err.ensures.err) c.self.inside.commands.items c.self.invariant.kept
+    ∙ c.self.view_is
 
 module _ (c : goal.After-self-1) where
   all : c.push_moved.new.list.items ≡ c.self.inside.commands.items ++ map (moved_by c.self.inside.kept) c.other.inside.commands.items
@@ -51,7 +52,7 @@ module _ (c : goal.After-self-1) where
       let moved = map (moved_by own.kept) other.commands.items in
       let both = c.in_default-push_copies.ensures.ok in
       ap (commands_of new) all ∙ flat_map-append (commands_at new) own.commands.items moved
-      ∙ ap (λ cs. cs ++ commands_of new moved) (same own.kept new c.push_copies.ensures.kept own.commands.items c.self.invariant.kept)
+      ∙ ap (λ cs. cs ++ commands_of new moved) (same own.kept new (keeps_own own.kept other.kept new both) own.commands.items c.self.invariant.kept)
       ∙ ap (λ cs. commands_of own.kept own.commands.items ++ cs) (all_moved own.kept other.kept new both other.commands.items)
 
 pub invariant_of-self-2 : goal.invariant_of-self-2
@@ -60,11 +61,13 @@ invariant_of-self-2 c =
     let other = c.other.inside in
     let new = c.push_copies.new.self in
     let moved = map (moved_by own.kept) other.commands.items in
+    let both = c.in_default-push_copies.ensures.ok in
     let P = SpeaksOfKept new in
     record {
       kept = All-same P c.push_moved.new.list.items (own.commands.items ++ moved) (all c)
-          (All-append P own.commands.items moved (still own.kept new c.push_copies.ensures.kept own.commands.items c.self.invariant.kept)
-          (all_moved_kept own.kept other.kept new c.in_default-push_copies.ensures.ok other.commands.items c.other.invariant.kept));
+          (All-append P own.commands.items moved
+          (still own.kept new (keeps_own own.kept other.kept new both) own.commands.items c.self.invariant.kept)
+          (all_moved_kept own.kept other.kept new both other.commands.items c.other.invariant.kept));
       count = omega (
         arith,
         c.in-Some.ensures,

@@ -3,14 +3,14 @@ use Rattle.eco_stages.proofs.Common.{take}
 use Rattle.eco_stages.proofs.Keeping.{all_keep, as_it_was, ends_in_set, grown}
 use Rattle.eco_stages.specs.Recorded.{names_of}
 use Rattle.eco_stages.specs.declared.width.Width.TheVariants.{One, Three, Eight}
-use Rattle.eco_stages.proofs.kept.Kept.push_set.Goals as goal
+use Rattle.eco_stages.proofs.kept.Kept.push_at.Goals as goal
 
 pub returns-in-One-clause-yes : goal.returns-in-One-clause-yes
 returns-in-One-clause-yes c done =
     let own = c.args.self.now in
     ends_in_set c.args.width One c.in-One.is own
     (record { ones = c.push_narrowed.new.list; threes = own.threes; eights = own.eights; names = own.names })
-    c.args.entity c.args.value (search rules) c.requires (c.push_narrowed.ensures.yes done)
+    c.args.entity c.args.value (search rules) (c.push_narrowed.ensures.whole done) (c.push_narrowed.ensures.yes done)
 
 pub returns-in-One-clause-kept : goal.returns-in-One-clause-kept
 returns-in-One-clause-kept c =
@@ -27,7 +27,7 @@ returns-in-Three-clause-yes c done =
     let own = c.args.self.now in
     ends_in_set c.args.width Three c.in-Three.is own
     (record { ones = own.ones; threes = c.push_narrowed-in-Three.new.list; eights = own.eights; names = own.names })
-    c.args.entity c.args.value (search rules) c.requires (c.push_narrowed-in-Three.ensures.yes done)
+    c.args.entity c.args.value (search rules) (c.push_narrowed-in-Three.ensures.whole done) (c.push_narrowed-in-Three.ensures.yes done)
 
 pub returns-in-Three-clause-kept : goal.returns-in-Three-clause-kept
 returns-in-Three-clause-kept c =
@@ -44,7 +44,7 @@ returns-in-Eight-clause-yes c done =
     let own = c.args.self.now in
     ends_in_set c.args.width Eight c.in-Eight.is own
     (record { ones = own.ones; threes = own.threes; eights = c.push_narrowed-in-Eight.new.list; names = own.names })
-    c.args.entity c.args.value (search rules) c.requires (c.push_narrowed-in-Eight.ensures.yes done)
+    c.args.entity c.args.value (search rules) (c.push_narrowed-in-Eight.ensures.whole done) (c.push_narrowed-in-Eight.ensures.yes done)
 
 pub returns-in-Eight-clause-kept : goal.returns-in-Eight-clause-kept
 returns-in-Eight-clause-kept c =

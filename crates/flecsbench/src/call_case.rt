@@ -1,7 +1,7 @@
 //! The cases of single calls of a world.
 use crate::calls::Calls;
 use crate::failure::Failure;
-use crate::per_call::tenths_for_one;
+use crate::per_call::hundredths_for_one;
 use crate::setting::{LIMIT, Setting};
 use crate::start::Start;
 use eco_world::World;
@@ -222,8 +222,13 @@ impl CallCase {
         self.1
     }
 
-    /// The time of one call of one run, in tenths of a nanosecond. Giving up the world is not timed.
-    pub fn tenths<C: Clock>(&self, clock: &C, alloc: Global, size: u32) -> Result<u64, Failure> {
+    /// The time of one call of one run, in hundredths of a nanosecond. Giving up the world is not timed.
+    pub fn hundredths<C: Clock>(
+        &self,
+        clock: &C,
+        alloc: Global,
+        size: u32,
+    ) -> Result<u64, Failure> {
         let mut setting = Setting::of(alloc, World::new(alloc, LIMIT)?);
         self.measure(clock, &mut setting, size)
     }
@@ -243,7 +248,7 @@ impl CallCase {
         let is_right = setting.call(self.4, size)?;
         let time = start.elapsed(clock)?;
         if is_right {
-            Ok(tenths_for_one(time, size))
+            Ok(hundredths_for_one(time, size))
         } else {
             Err(Failure::WrongAnswer)
         }

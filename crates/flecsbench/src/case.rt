@@ -39,23 +39,23 @@ impl Case {
         }
     }
 
-    // The time of one call of one run, in tenths of a nanosecond.
-    fn tenths<R: Clock + Threads + Wait + Copy + Drop + Send + Sync + 'static>(
+    // The time of one call of one run, in hundredths of a nanosecond.
+    fn hundredths<R: Clock + Threads + Wait + Copy + Drop + Send + Sync + 'static>(
         self,
         rt: R,
         alloc: Global,
         size: u32,
     ) -> Result<u64, Failure> {
         match self {
-            Case::Call(case) => case.tenths(&rt, alloc, size),
-            Case::Frame(case) => case.tenths(&rt, alloc, size),
-            Case::Shared(case) => case.tenths(rt, alloc, size),
+            Case::Call(case) => case.hundredths(&rt, alloc, size),
+            Case::Frame(case) => case.hundredths(&rt, alloc, size),
+            Case::Shared(case) => case.hundredths(rt, alloc, size),
         }
     }
 
-    /// The least time of one call of the runs that are chosen, in tenths of a nanosecond: each run is in a fresh world, and there is
-    /// one at least. None where nothing is to be measured.
-    pub fn best_tenths<R: Clock + Threads + Wait + Copy + Drop + Send + Sync + 'static>(
+    /// The least time of one call of the runs that are chosen, in hundredths of a nanosecond: each run is in a fresh world, and
+    /// there is one at least. None where nothing is to be measured.
+    pub fn best_hundredths<R: Clock + Threads + Wait + Copy + Drop + Send + Sync + 'static>(
         self,
         rt: R,
         alloc: Global,
@@ -65,9 +65,9 @@ impl Case {
         if !choice.is_run {
             return Ok(None);
         }
-        let mut best = self.tenths(rt, alloc, size)?;
+        let mut best = self.hundredths(rt, alloc, size)?;
         for _ in 1..choice.repeat {
-            best = best.min(self.tenths(rt, alloc, size)?);
+            best = best.min(self.hundredths(rt, alloc, size)?);
         }
         Ok(Some(best))
     }

@@ -1,7 +1,7 @@
 //! The cases of frames: systems that run on a world.
 use crate::failure::Failure;
 use crate::heavy::Heavy;
-use crate::per_call::tenths_for_one;
+use crate::per_call::hundredths_for_one;
 use crate::simulation::Simulation;
 use eco_bodies::Script;
 use eco_ids::Refusal;
@@ -72,14 +72,14 @@ impl FrameCase {
         self.1
     }
 
-    /// The time of one call of one run, in tenths of a nanosecond.
-    pub fn tenths<R: Clock + Threads + Sync>(
+    /// The time of one call of one run, in hundredths of a nanosecond.
+    pub fn hundredths<R: Clock + Threads + Sync>(
         &self,
         rt: &R,
         alloc: Global,
         size: u32,
     ) -> Result<u64, Failure> {
-        Ok(tenths_for_one(self.time(rt, alloc, size)?, size))
+        Ok(hundredths_for_one(self.time(rt, alloc, size)?, size))
     }
 
     // How long the frames of one run took. Neither what comes before nor giving up the world and the pipeline is timed.

@@ -46,20 +46,20 @@ fn between(choice: &Choice<'_>) -> &'static str {
     if choice.is_csv { "," } else { " " }
 }
 
-// The line of a case at one size: what one call took, in tenths of a nanosecond, or where nothing is measured the size alone.
+// The line of a case at one size: what one call took, in hundredths of a nanosecond, or where nothing is measured the size alone.
 fn print_line<R: Print>(
     rt: &R,
     choice: &Choice<'_>,
     name: &str,
     size: u32,
-    tenths: Option<u64>,
+    hundredths: Option<u64>,
 ) -> io::Result<()> {
     let between = between(choice);
-    let Some(tenths) = tenths else {
+    let Some(hundredths) = hundredths else {
         return println!(rt; "{name}{between}{size}");
     };
-    let (whole, rest) = (tenths / 10, tenths % 10);
-    println!(rt; "{name}{between}{size}{between}{whole}.{rest}")
+    let (whole, rest) = (hundredths / 100, hundredths % 100);
+    println!(rt; "{name}{between}{size}{between}{whole}.{rest:02}")
 }
 
 // The names of the fields, where they are asked for.
@@ -80,8 +80,8 @@ fn print_case<R: Print + Clock + Threads + Wait + Copy + Drop + Send + Sync + 's
 ) -> Result<(), Failure> {
     for size in case.sizes() {
         if choice.takes(case.name(), *size) {
-            let tenths = case.best_tenths(rt, alloc, choice, *size)?;
-            print_line(&rt, choice, case.name(), *size, tenths)?;
+            let hundredths = case.best_hundredths(rt, alloc, choice, *size)?;
+            print_line(&rt, choice, case.name(), *size, hundredths)?;
         }
     }
     Ok(())

@@ -60,8 +60,8 @@ impl SharedCase {
         SIZES
     }
 
-    /// The time of one call of one run, in tenths of a nanosecond. The making of the worlds is not timed.
-    pub fn tenths<R: Clock + Threads + Wait + Copy + Drop + Send + Sync + 'static>(
+    /// The time of one call of one run, in hundredths of a nanosecond. The making of the worlds is not timed.
+    pub fn hundredths<R: Clock + Threads + Wait + Copy + Drop + Send + Sync + 'static>(
         &self,
         rt: R,
         alloc: Global,
@@ -69,7 +69,7 @@ impl SharedCase {
     ) -> Result<u64, Failure> {
         match self.1 {
             Measured::PlainMerges => measure_plain(&rt, alloc, size),
-            // The registry gets its name here: `Brand` stands for one that this call picks (proofs/shared/SharedCase/tenths).
+            // The registry gets its name here: `Brand` stands for one that this call picks (proofs/shared/SharedCase/hundredths).
             measured => share::<Brand, R>(rt, alloc, Blank::new(), measured, size),
         }
     }
@@ -103,7 +103,7 @@ fn share<
     }
 }
 
-// The time of one call of those that are measured, in tenths of a nanosecond.
+// The time of one call of those that are measured, in hundredths of a nanosecond.
 fn measure<
     J: Naming + Send + 'static,
     R: Clock + Threads + Wait + Copy + Drop + Send + Sync + 'static,

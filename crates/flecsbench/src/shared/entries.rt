@@ -1,7 +1,7 @@
 //! How long entries into a shared world take.
 use super::merges::merge_shared;
 use crate::failure::Failure;
-use crate::per_call::tenths_for_one;
+use crate::per_call::hundredths_for_one;
 use eco_ids::Refusal;
 use eco_shared::{Merger, Naming, Viewer};
 use std::alloc::Global;
@@ -15,7 +15,7 @@ use std::time::Instant;
 // So many entries of each viewer are timed.
 const ENTRIES: u32 = 200_000;
 
-/// The time of one entry, in tenths of a nanosecond. The greatest number of known indices is asked each time, so that no entry
+/// The time of one entry, in hundredths of a nanosecond. The greatest number of known indices is asked each time, so that no entry
 /// can be left out.
 pub fn time_entries<J: Naming, R: Wait + Drop, C: Clock + Wait>(
     rt: &C,
@@ -26,11 +26,11 @@ pub fn time_entries<J: Naming, R: Wait + Drop, C: Clock + Wait>(
     for _ in 0..ENTRIES {
         high = high.max(viewer.enter(rt).world().high());
     }
-    let tenths = tenths_for_one(start.elapsed(rt)?, ENTRIES);
+    let hundredths = hundredths_for_one(start.elapsed(rt)?, ENTRIES);
     if high == 0 {
         Err(Failure::WrongAnswer)
     } else {
-        Ok(tenths)
+        Ok(hundredths)
     }
 }
 
@@ -40,9 +40,9 @@ fn enter<J: Naming, R: Wait + Clock + Drop>(
     mut viewer: Viewer<J, R>,
     done: Arc<AtomicU64>,
 ) -> u64 {
-    let tenths = time_entries(rt, &mut viewer).unwrap_or(0);
+    let hundredths = time_entries(rt, &mut viewer).unwrap_or(0);
     done.fetch_add(1, Ordering::SeqCst);
-    tenths
+    hundredths
 }
 
 // Counts the threads that are done.
@@ -113,7 +113,7 @@ fn sum_of<R: Threads>(rt: &R, threads: Vec<JoinHandle<u64>>) -> u64 {
     sum
 }
 
-/// The time of one entry where so many of the viewers enter beside a merger that never rests, in tenths of a nanosecond.
+/// The time of one entry where so many of the viewers enter beside a merger that never rests, in hundredths of a nanosecond.
 pub fn time_beside<
     J: Naming + Send + 'static,
     R: Clock + Threads + Wait + Copy + Drop + Send + Sync + 'static,

@@ -1,7 +1,7 @@
 //! How long merges take, into a shared world and into one that is not.
 use super::scene::stage_of;
 use crate::failure::Failure;
-use crate::per_call::tenths_for_one;
+use crate::per_call::hundredths_for_one;
 use eco_ids::Refusal;
 use eco_shared::{Merger, Naming};
 use eco_world::World;
@@ -32,7 +32,7 @@ pub fn merge_shared<J: Naming, R: Wait + Drop>(
     Ok(())
 }
 
-/// The time of one merge into a world of this size that is not shared, in tenths of a nanosecond.
+/// The time of one merge into a world of this size that is not shared, in hundredths of a nanosecond.
 pub fn time_plain<C: Clock>(
     clock: &C,
     alloc: Global,
@@ -43,10 +43,10 @@ pub fn time_plain<C: Clock>(
     for turn in 0..MERGES {
         merge_plain(alloc, world, size, turn)?;
     }
-    Ok(tenths_for_one(start.elapsed(clock)?, MERGES))
+    Ok(hundredths_for_one(start.elapsed(clock)?, MERGES))
 }
 
-/// The time of one merge into a shared world of this size, in tenths of a nanosecond.
+/// The time of one merge into a shared world of this size, in hundredths of a nanosecond.
 pub fn time_shared<J: Naming, R: Wait + Drop, C: Clock>(
     clock: &C,
     alloc: Global,
@@ -57,5 +57,5 @@ pub fn time_shared<J: Naming, R: Wait + Drop, C: Clock>(
     for turn in 0..MERGES {
         merge_shared(alloc, merger, size, turn)?;
     }
-    Ok(tenths_for_one(start.elapsed(clock)?, MERGES))
+    Ok(hundredths_for_one(start.elapsed(clock)?, MERGES))
 }

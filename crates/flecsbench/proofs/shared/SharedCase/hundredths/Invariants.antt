@@ -1,4 +1,4 @@
-use Rattle.flecsbench.proofs.shared.SharedCase.tenths.Given as goal
+use Rattle.flecsbench.proofs.shared.SharedCase.hundredths.Given as goal
 
 abbrev pub ghosts-share : goal.ghosts-share
 ghosts-share g a = record { book = a.blank.front.seen.book }

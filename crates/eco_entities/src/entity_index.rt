@@ -427,6 +427,18 @@ impl EntityIndex {
         requires { IsTrue (is_alive self.old entity) }
         ensures { self.new ≡ changed self.old entity (renamed None) }
     {
+        if self.slots.is_named(entity) {
+            self.lose_name(entity);
+        }
+    }
+
+    // What `unname` does where there is a name, apart, so that who has none costs no more than a look.
+    #[cold]
+    #[inline(never)]
+    fn lose_name(&mut self, entity: Entity)
+        requires { IsTrue (is_alive self.old entity) }
+        ensures { self.new ≡ changed self.old entity (renamed None) }
+    {
         if let Some(name) = self.slots.take_name(entity) {
             self.names.remove(name.as_str(), entity.index, None);
         }

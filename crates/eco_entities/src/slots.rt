@@ -426,6 +426,15 @@ impl Slots {
         Ok(was)
     }
 
+    /// Whether the living entity has a name. Where it has none, all is as it would be without one.
+    #[inline]
+    pub(crate) fn is_named(&self, entity: Entity) -> bool
+        requires { IsTrue (is_alive self.now entity) }
+        ensures { result ≡ false → self.now ≡ changed self.now entity (renamed None) }
+    {
+        self.slots[entity.index as usize].is_named()
+    }
+
     /// The living entity has no name from now on. The answer is the one that it had.
     #[inline(always)]
     pub(crate) fn take_name(&mut self, entity: Entity) -> Option<Label>

@@ -16,12 +16,25 @@ use eco_ids::{Id, Value};
 use std::alloc::{AllocError, Global};
 use std::marker::Model;
 
-/// What is kept of values: so many fields of each.
+/// What is kept of values: so many fields of each. Narrow and wide ones are told apart first: so a value of few fields is found
+/// by three comparisons, where all eight widths at once would take a jump that is looked up.
 #[derive(Drop)]
 pub enum Cells {
+    Narrow(Narrow),
+    Wide(Wide),
+}
+
+/// Up to three fields of each.
+#[derive(Drop)]
+pub enum Narrow {
     One(Vec<[i64; 1]>),
     Two(Vec<[i64; 2]>),
     Three(Vec<[i64; 3]>),
+}
+
+/// Four fields of each and more.
+#[derive(Drop)]
+pub enum Wide {
     Four(Vec<[i64; 4]>),
     Five(Vec<[i64; 5]>),
     Six(Vec<[i64; 6]>),
@@ -33,30 +46,18 @@ pub enum Cells {
 macro_rules! at_each_width {
     ($fields:expr, |$rows:ident| $done:expr) => {
         match $fields {
-            Cells::One($rows) => $done,
-            Cells::Two($rows) => $done,
-            Cells::Three($rows) => $done,
-            Cells::Four($rows) => $done,
-            Cells::Five($rows) => $done,
-            Cells::Six($rows) => $done,
-            Cells::Seven($rows) => $done,
-            Cells::Eight($rows) => $done,
-        }
-    };
-}
-
-// What is made of the fields, in the variant of the same width.
-macro_rules! of_same_width {
-    ($made:ident, $fields:expr, |$rows:ident| $done:expr) => {
-        match $fields {
-            Cells::One($rows) => $made::One($done),
-            Cells::Two($rows) => $made::Two($done),
-            Cells::Three($rows) => $made::Three($done),
-            Cells::Four($rows) => $made::Four($done),
-            Cells::Five($rows) => $made::Five($done),
-            Cells::Six($rows) => $made::Six($done),
-            Cells::Seven($rows) => $made::Seven($done),
-            Cells::Eight($rows) => $made::Eight($done),
+            Cells::Narrow(fields) => match fields {
+                Narrow::One($rows) => $done,
+                Narrow::Two($rows) => $done,
+                Narrow::Three($rows) => $done,
+            },
+            Cells::Wide(fields) => match fields {
+                Wide::Four($rows) => $done,
+                Wide::Five($rows) => $done,
+                Wide::Six($rows) => $done,
+                Wide::Seven($rows) => $done,
+                Wide::Eight($rows) => $done,
+            },
         }
     };
 }
@@ -65,14 +66,20 @@ macro_rules! of_same_width {
 macro_rules! at_equal_widths {
     ($fields:expr, $others:expr, |$rows:ident, $source:ident| $done:expr) => {
         match ($fields, $others) {
-            (Cells::One($rows), Cells::One($source)) => $done,
-            (Cells::Two($rows), Cells::Two($source)) => $done,
-            (Cells::Three($rows), Cells::Three($source)) => $done,
-            (Cells::Four($rows), Cells::Four($source)) => $done,
-            (Cells::Five($rows), Cells::Five($source)) => $done,
-            (Cells::Six($rows), Cells::Six($source)) => $done,
-            (Cells::Seven($rows), Cells::Seven($source)) => $done,
-            (Cells::Eight($rows), Cells::Eight($source)) => $done,
+            (Cells::Narrow(fields), Cells::Narrow(others)) => match (fields, others) {
+                (Narrow::One($rows), Narrow::One($source)) => $done,
+                (Narrow::Two($rows), Narrow::Two($source)) => $done,
+                (Narrow::Three($rows), Narrow::Three($source)) => $done,
+                _ => unreachable!(),
+            },
+            (Cells::Wide(fields), Cells::Wide(others)) => match (fields, others) {
+                (Wide::Four($rows), Wide::Four($source)) => $done,
+                (Wide::Five($rows), Wide::Five($source)) => $done,
+                (Wide::Six($rows), Wide::Six($source)) => $done,
+                (Wide::Seven($rows), Wide::Seven($source)) => $done,
+                (Wide::Eight($rows), Wide::Eight($source)) => $done,
+                _ => unreachable!(),
+            },
             _ => unreachable!(),
         }
     };
@@ -121,7 +128,20 @@ impl Cells {
         ensures width { IfOk result (λ f. width_of f ≡ width_of self.now) }
         ensures values { IfOk result (λ f. values_of f ≡ values_of self.now) }
     {
-        Ok(of_same_width!(Cells, self, |rows| copied(rows)?))
+        Ok(match self {
+            Cells::Narrow(fields) => Cells::Narrow(match fields {
+                Narrow::One(rows) => Narrow::One(copied(rows)?),
+                Narrow::Two(rows) => Narrow::Two(copied(rows)?),
+                Narrow::Three(rows) => Narrow::Three(copied(rows)?),
+            }),
+            Cells::Wide(fields) => Cells::Wide(match fields {
+                Wide::Four(rows) => Wide::Four(copied(rows)?),
+                Wide::Five(rows) => Wide::Five(copied(rows)?),
+                Wide::Six(rows) => Wide::Six(copied(rows)?),
+                Wide::Seven(rows) => Wide::Seven(copied(rows)?),
+                Wide::Eight(rows) => Wide::Eight(copied(rows)?),
+            }),
+        })
     }
 }
 
@@ -263,14 +283,14 @@ impl Column {
         ensures empty { result.values ≡ [] }
     {
         let fields = match width {
-            1 => Cells::One(Vec::new(alloc)),
-            2 => Cells::Two(Vec::new(alloc)),
-            3 => Cells::Three(Vec::new(alloc)),
-            4 => Cells::Four(Vec::new(alloc)),
-            5 => Cells::Five(Vec::new(alloc)),
-            6 => Cells::Six(Vec::new(alloc)),
-            7 => Cells::Seven(Vec::new(alloc)),
-            _ => Cells::Eight(Vec::new(alloc)),
+            1 => Cells::Narrow(Narrow::One(Vec::new(alloc))),
+            2 => Cells::Narrow(Narrow::Two(Vec::new(alloc))),
+            3 => Cells::Narrow(Narrow::Three(Vec::new(alloc))),
+            4 => Cells::Wide(Wide::Four(Vec::new(alloc))),
+            5 => Cells::Wide(Wide::Five(Vec::new(alloc))),
+            6 => Cells::Wide(Wide::Six(Vec::new(alloc))),
+            7 => Cells::Wide(Wide::Seven(Vec::new(alloc))),
+            _ => Cells::Wide(Wide::Eight(Vec::new(alloc))),
         };
         Column { id, fields }
     }
@@ -321,14 +341,18 @@ impl Column {
         ensures few { result ≤ FIELD_COUNT }
     {
         match &self.fields {
-            Cells::One(_) => 1,
-            Cells::Two(_) => 2,
-            Cells::Three(_) => 3,
-            Cells::Four(_) => 4,
-            Cells::Five(_) => 5,
-            Cells::Six(_) => 6,
-            Cells::Seven(_) => 7,
-            Cells::Eight(_) => 8,
+            Cells::Narrow(fields) => match fields {
+                Narrow::One(_) => 1,
+                Narrow::Two(_) => 2,
+                Narrow::Three(_) => 3,
+            },
+            Cells::Wide(fields) => match fields {
+                Wide::Four(_) => 4,
+                Wide::Five(_) => 5,
+                Wide::Six(_) => 6,
+                Wide::Seven(_) => 7,
+                Wide::Eight(_) => 8,
+            },
         }
     }
 
@@ -344,7 +368,20 @@ impl Column {
         ensures fields { fields_of result ≡ self.now.width }
         ensures values { whole_values result ≡ self.now.values }
     {
-        of_same_width!(Values, &self.fields, |rows| rows.as_slice())
+        match &self.fields {
+            Cells::Narrow(fields) => match fields {
+                Narrow::One(rows) => Values::One(rows.as_slice()),
+                Narrow::Two(rows) => Values::Two(rows.as_slice()),
+                Narrow::Three(rows) => Values::Three(rows.as_slice()),
+            },
+            Cells::Wide(fields) => match fields {
+                Wide::Four(rows) => Values::Four(rows.as_slice()),
+                Wide::Five(rows) => Values::Five(rows.as_slice()),
+                Wide::Six(rows) => Values::Six(rows.as_slice()),
+                Wide::Seven(rows) => Values::Seven(rows.as_slice()),
+                Wide::Eight(rows) => Values::Eight(rows.as_slice()),
+            },
+        }
     }
 
     /// Room for more values. An `Err` keeps what is there.

@@ -6,7 +6,7 @@ ghost use Rattle.eco_ids.specs.declared.value.TheConstants.{FIELD_COUNT};
 ghost use Rattle.eco_tables.specs.Column.{Fits};
 ghost use Rattle.eco_tables.specs.Runs.{column_with_run, run_values, values_with_run};
 
-use crate::column::{Cells, Column};
+use crate::column::{Cells, Column, Narrow, Wide};
 use eco_ids::Entity;
 
 // The first fields of a value in as many as are kept: those that lack are 0.

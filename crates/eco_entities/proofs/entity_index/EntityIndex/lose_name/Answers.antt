@@ -1,7 +1,7 @@
 use Rattle.eco_entities.proofs.Common.{◌≡◌, sym, ap, ◌∙◌, true, None, Some, inl, is_alive, own_name, given_name}
 use Rattle.eco_entities.proofs.Owners.{apart_from, own-renamed}
 use Rattle.eco_entities.proofs.Registers.{registry_lose, registry_nameless}
-use Rattle.eco_entities.proofs.entity_index.EntityIndex.unname.Goals as goal
+use Rattle.eco_entities.proofs.entity_index.EntityIndex.lose_name.Goals as goal
 
 pub invariant_of-self : goal.invariant_of-self
 invariant_of-self c =

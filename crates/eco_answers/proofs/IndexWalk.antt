@@ -11,11 +11,7 @@ use Rattle.eco_answers.proofs.Common.{type_in_store, Standing, or_right, record_
 use Rattle.std.proofs.Common.{drop-cons}
 use Rattle.eco_places.proofs.Holders.{found_matches, is_found_there, row_kept}
 use Rattle.eco_places.proofs.Seated.{one_some, read_record}
-use Rattle.eco_places.proofs.Shows.{has_place, shows, slot_there}
-use Rattle.eco_tables.proofs.Slots.{slot_within}
-use Rattle.eco_entities.specs.Registration.{entity_at, entity_in, own_place}
-use Rattle.eco_answers.specs.Ranking.{AreHoused}
-use Rattle.std.specs.Prelude.{None, option_and_then}
+use Rattle.eco_places.proofs.Shows.{has_place, shows}
 
 -- ---- numbers
 
@@ -113,23 +109,6 @@ module _ (w : Indexed Registration) (tables : List (Option TableState)) (store :
       let ids : record_ids (kept r) ≡ (table_in tables p.table).ids = ap record_ids (sym same) ∙ known.2 in
       let within = slice_get_within (table_in tables p.table).rows p.row row.0 row.1 in
       (p, place.1, omega (arith, within), ids, ap (option_map record_ids) mine ∙ ap Some ids)
-
-  -- each who lives has a place in one of the tables
-  pub housed : AreHoused (length tables) w
-  housed i e at = by (slice_get w.indices i) refl at
-    where
-      by : (o : Option (IndexState Registration)) → slice_get w.indices i ≡ o → entity_in i o ≡ Some e
-          → (p : Place) × (own_place w e ≡ Some p) × (p.table < length tables)
-      by None is none = absurd (cc)
-      by (Some Retired) is none = absurd (cc)
-      by (Some (Free g)) is none = absurd (cc)
-      by (Some (Living g r)) is same =
-          let place = has_place r.place (subst HasPlace is (store.placed i)) in
-          let p : Place = place.0 in
-          let row = store.seated.there i (seat_of_place g p) (ap seat_in is ∙ ap (option_map (seat_of_place g)) place.1) in
-          let own : own_place w (handle i g) ≡ Some p = ap (option_and_then (λ x. x.place)) (record_at w (handle i g) r is) ∙ place.1 in
-          let there = slot_there tables p.table p.row row.0 row.1 in
-          (p, ap (own_place w) (sym (one_some _ _ _ refl same)) ∙ own, slot_within tables p.table (table_in tables p.table) there)
 
   -- these are the states from an index on
   abbrev AreFrom : ℕ → List (IndexState Registration) → Type 0

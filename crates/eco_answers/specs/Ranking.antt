@@ -6,8 +6,7 @@ use Rattle.eco_ids.specs.World.{Record}
 use Rattle.eco_ids.specs.Order.{entity_cmp}
 use Rattle.eco_ids.specs.Indices.{Indexed, IndexState}
 use Rattle.eco_ids.specs.declared.entity.Entity.{Entity}
-use Rattle.eco_entities.specs.declared.place.Place.{Place}
-use Rattle.eco_entities.specs.Registration.{Registration, entity_at, own_place}
+use Rattle.eco_entities.specs.Registration.{Registration}
 use Rattle.eco_tables.specs.Table.{TableState, entities_of}
 use Rattle.eco_tables.specs.Tables.{table_in}
 use Rattle.eco_places.specs.Seats.{Seat, seated_entity}
@@ -33,10 +32,6 @@ pub record AreRanked (ones ranked : List Standing) : Type 0 where
 abbrev pub StandsIn : Indexed Record → List (Option TableState) → List ℕ → Standing → Type 0
 StandsIn w tables slots s =
     (s.place < length slots) × (type_in_store w s.entity ≡ Some (table_in tables (slice_index_or slots s.place 0)).ids)
-
--- each who lives has a place, in a table whose slot lies below the bound
-abbrev pub AreHoused : ℕ → Indexed Registration → Type 0
-AreHoused bound w = (i : ℕ) (e : Entity) → entity_at w i ≡ Some e → (p : Place) × (own_place w e ≡ Some p) × (p.table < bound)
 
 -- the number of a slot, 0 where it has none
 abbrev pub slot_number : List ℕ → ℕ → ℕ

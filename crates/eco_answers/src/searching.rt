@@ -6,7 +6,7 @@ ghost use Rattle.eco_ids.specs.Indices.{living};
 ghost use Rattle.eco_ids.specs.declared.id.Id.{Id as Ids};
 ghost use Rattle.eco_tables.specs.Tables.{slot_of};
 ghost use Rattle.eco_places.specs.Holders.{passes, entities_whose};
-ghost use Rattle.eco_places.specs.Shown.{read, IsStore};
+ghost use Rattle.eco_places.specs.Shown.{read, AreHoused, IsStore};
 ghost use Rattle.eco_answers.specs.Ranking.{StandsIn};
 ghost use Rattle.eco_answers.specs.declared.standing.Standing.{Standing as Stands};
 
@@ -47,6 +47,7 @@ fn standing_in(
     slots: &[TableSlot],
 ) -> Result<Ranked, AllocError>
     requires store { IsStore entities.now tables.now }
+    requires housed { AreHoused (length tables.now) entities.now }
     requires there { All (λ n. IsSome (slot_of tables.now n)) slots.now }
     ensures all { IfOk result (λ v. (test : List Ids → Bool) → IsAllFound test tables.now slots.now
         → map (λ (x : Stands). x.entity) v ≡ entities_whose (read entities.now tables.now) test) }

@@ -1,7 +1,8 @@
 //! Who stands in the tables of some slots, by one walk over the indices.
 ghost use Rattle.std.specs.Prelude.{◌≡◌, ◌<◌, ◌≤◌, ◌+◌, ◌-◌, ◌++◌, IfOk, drop, length, vec_capacity, vec_len};
 ghost use Rattle.std.specs.List.{All};
-ghost use Rattle.eco_answers.specs.Ranking.{AreHoused, IsNumbering, IsWalked, standing_at, standing_from};
+ghost use Rattle.eco_answers.specs.Ranking.{IsNumbering, IsWalked, standing_at, standing_from};
+ghost use Rattle.eco_places.specs.Shown.{AreHoused};
 
 use crate::standing::Standing;
 use eco_entities::{EntityIndex, Homes};

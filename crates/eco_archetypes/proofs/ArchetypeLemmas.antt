@@ -3,7 +3,7 @@ use Rattle.eco_archetypes.proofs.Common.{◌≡◌, ◌≢◌, ℕ, ◌<◌, Boo
 use Rattle.eco_archetypes.proofs.Common.{Some, None, option_map, unwrap_or, IsSome, nat_eq, refl, sym, ap, ◌∙◌, inl, inr, is_some, true≢false}
 use Rattle.eco_archetypes.proofs.Common.{list_any, same_Some, ◌||◌}
 use Rattle.eco_archetypes.proofs.Common.{cases_eq, Decides-eqb, Id, TableState, TableRow, slot_of, table_in, no_table, SetsSlot, Moves, MovesAll}
-use Rattle.eco_archetypes.proofs.Common.{rowless, rowless_type, room_some, row_some, TypesDiffer, IsTypeMap, same_ids-Decides, is_type, fingerprint}
+use Rattle.eco_archetypes.proofs.Common.{rowless, rowless_type, room_some, row_some, row_within, TypesDiffer, IsTypeMap, same_ids-Decides, is_type, fingerprint}
 use Rattle.eco_archetypes.proofs.Common.{ListsSame, Lists, any_matches, Turns, toggled, Cuts}
 use Rattle.eco_archetypes.proofs.Common.{Links, SameEdges, AreExact, AreTold, ChangesType, StayExact, Cache, exact_types, graph_made, graph_cut, graph_linked}
 use Rattle.eco_archetypes.proofs.Common.{type_at, type_marked, type_matches, IsIdIndex, IsArchetypes, SameSlots, SameRows, AreAgreed}
@@ -13,6 +13,10 @@ use Rattle.eco_archetypes.proofs.Widths.{kept_agreed, kinds, sets_kept}
 -- a slot whose table has a row, or room, has a table
 pub there_by_row : (s : List (Option TableState)) (n row : ℕ) → row < length (table_in s n).rows → IsSome (slot_of s n)
 there_by_row = row_some
+
+-- and is one of the slots
+pub below_by_row : (s : List (Option TableState)) (n row : ℕ) → row < length (table_in s n).rows → n < length s
+below_by_row = row_within
 
 pub there_by_room : (s : List (Option TableState)) (n : ℕ) → 0 < (table_in s n).room → IsSome (slot_of s n)
 there_by_room = room_some

@@ -50,7 +50,7 @@ pub use Rattle.eco_index.specs.IdIndex.{Lists, ListsSame, Turns, any_matches, is
 pub use Rattle.eco_index.specs.TypeMap.{TypesDiffer, IsTypeMap, is_but, same_ids, type_marked}
 pub use Rattle.eco_index.specs.TypeTests.{AreNeeded, group_at, naming, passes_with, passes_without, type_matches_one, type_names}
 pub use Rattle.eco_query.specs.Queries.{QuerySlot, exactly, matches_type}
-pub use Rattle.eco_tables.proofs.Slots.{none_is, room_some, row_some}
+pub use Rattle.eco_tables.proofs.Slots.{none_is, room_some, row_some, row_within}
 pub use Rattle.eco_tables.specs.Table.{FitsId, TableRow, TableState, empty_table, paired, width_in}
 pub use Rattle.eco_tables.specs.Tables.{AreCopies, Moves, MovesAll, SetsRoom, SetsSlot, no_table, rowless, rowless_type, slot_of, table_in, turned, with_room}
 pub use Rattle.eco_tables.specs.Tables.{without_room}

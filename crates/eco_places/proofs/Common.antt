@@ -14,9 +14,9 @@ pub use Rattle.std.specs.List.{All, AllByRecursion, AllPairs, Contains, list_all
 pub use Rattle.std.specs.List.Sorted.{IsPermutation, IsSorted}
 pub use Rattle.std.specs.Option.{option_copied}
 pub use Rattle.std.specs.Ordering.{eq_by_cmp, ordering_reverse}
-pub use Rattle.eco_archetypes.proofs.ArchetypeLemmas.{there_by_row}
+pub use Rattle.eco_archetypes.proofs.ArchetypeLemmas.{below_by_row, there_by_row}
 pub use Rattle.eco_archetypes.specs.Archetypes.{FindsSome, is_found_by, row_at, standing_in}
-pub use Rattle.eco_entities.specs.Registration.{Registration, own_place, placed}
+pub use Rattle.eco_entities.specs.Registration.{Registration, entity_in, own_place, placed}
 pub use Rattle.eco_entities.specs.declared.place.Place.{Place}
 pub use Rattle.eco_ids.proofs.Ascending.{both, first, second}
 pub use Rattle.eco_ids.proofs.Facts.{equal_tie, or_parts, or_right, same_tests}
@@ -28,6 +28,6 @@ pub use Rattle.eco_ids.specs.declared.entity.Entity.{Entity}
 pub use Rattle.eco_ids.specs.declared.id.Id.{Id}
 pub use Rattle.eco_places.specs.Holders.{entities_whose, passes}
 pub use Rattle.eco_places.specs.Seats.{Seat, held_of, seat_of}
-pub use Rattle.eco_places.specs.Shown.{HasPlace, IsShown, IsStore, Stands, held_at, read, record_for, seat_at, seat_in, seat_of_place}
+pub use Rattle.eco_places.specs.Shown.{AreHoused, HasPlace, IsShown, IsStore, Stands, held_at, read, record_for, seat_at, seat_in, seat_of_place}
 pub use Rattle.eco_tables.specs.Table.{HasIds, TableRow, TableState, entities_of}
 pub use Rattle.eco_tables.specs.Tables.{AllHaveIds, no_row, no_table, row_in, slot_of, table_in}

@@ -4,6 +4,7 @@ use Rattle.eco_places.proofs.Common.{sym, unwrap_or, zero, ℕ, ◌<◌, ◌∙�
 use Rattle.eco_places.proofs.Common.{Registration, own_place, Place, living_at, record_at, Indexed, record_of, Record, Entity, Id}
 use Rattle.eco_places.proofs.Common.{Seat, held_of, seat_of, HasPlace, IsShown, IsStore, Stands, held_at, read, record_for, seat_at, seat_in}
 use Rattle.eco_places.proofs.Common.{seat_of_place, HasIds, TableRow, TableState, AllHaveIds, no_row, no_table, slot_of, table_in}
+use Rattle.eco_places.proofs.Common.{AreHoused, IndexState, Retired, Free, Living, below_by_row, entity_in}
 use Rattle.eco_places.proofs.Seated.{no_some, one_some, record_of-read, place_from_seat, placed_record, seat_there, read_record}
 
 -- the row of an entity that has a place
@@ -61,6 +62,26 @@ from_read w s e k h = by (record_of w e) (sym (record_of-read w s e) ∙ h)
 pub has_place : (o : Option Place) → IsSome o → (p : Place) × (o ≡ Some p)
 has_place None h = absurd (cc)
 has_place (Some p) h = (p, refl)
+
+-- each who lives has a place in one of the tables
+pub housed : (w : Indexed Registration) (s : List (Option TableState)) → IsStore w s → AreHoused (length s) w
+housed w s store i e at = by (slice_get w.indices i) refl at
+  where
+    handle : ℕ → ℕ → Entity
+    handle i g = record { index = i; generation = g }
+
+    by : (o : Option (IndexState Registration)) → slice_get w.indices i ≡ o → entity_in i o ≡ Some e
+        → (p : Place) × (own_place w e ≡ Some p) × (p.table < length s)
+    by None is none = absurd (cc)
+    by (Some Retired) is none = absurd (cc)
+    by (Some (Free g)) is none = absurd (cc)
+    by (Some (Living g r)) is same =
+        let place = has_place r.place (subst HasPlace is (store.placed i)) in
+        let p : Place = place.0 in
+        let row = store.seated.there i (seat_of_place g p) (ap seat_in is ∙ ap (option_map (seat_of_place g)) place.1) in
+        let own : own_place w (handle i g) ≡ Some p = ap (option_and_then (λ x. x.place)) (record_at w (handle i g) r is) ∙ place.1 in
+        let within = slice_get_within (table_in s p.table).rows p.row row.0 row.1 in
+        (p, ap (own_place w) (sym (one_some _ _ _ refl same)) ∙ own, below_by_row s p.table p.row within)
 
 pub shows : (w : Indexed Registration) (s : List (Option TableState)) → IsStore w s → AllHaveIds s → IsShown (read w s) s
 shows w s store own = record {

@@ -6,7 +6,7 @@ use Rattle.eco_ids.specs.declared.value.Value.{Value}
 use Rattle.eco_ids.specs.Indices.{Indexed, IndexState, Retired, Free, Living, record_of, map_state}
 use Rattle.eco_ids.specs.World.{Record}
 use Rattle.eco_entities.specs.declared.place.Place.{Place}
-use Rattle.eco_entities.specs.Registration.{Registration}
+use Rattle.eco_entities.specs.Registration.{Registration, entity_at, own_place}
 use Rattle.eco_tables.specs.Table.{TableState, TableRow, RowsHaveIds}
 use Rattle.eco_tables.specs.Tables.{table_in}
 use Rattle.eco_archetypes.specs.Archetypes.{row_at}
@@ -46,6 +46,10 @@ HasPlace None = Unit {0}
 HasPlace (Some Retired) = Unit {0}
 HasPlace (Some (Free g)) = Unit {0}
 HasPlace (Some (Living g r)) = IsSome r.place
+
+-- each who lives has a place, in a table whose slot lies below the bound
+abbrev pub AreHoused : ℕ → Indexed Registration → Type 0
+AreHoused bound w = (i : ℕ) (e : Entity) → entity_at w i ≡ Some e → (p : Place) × (own_place w e ≡ Some p) × (p.table < bound)
 
 -- each living entity stands in one row, and each row's entity lives
 pub record IsStore (w : Indexed Registration) (slots : List (Option TableState)) : Type 0 where

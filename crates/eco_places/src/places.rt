@@ -1,11 +1,11 @@
 //! The entities of a store, its tables, and who stands where in them.
-ghost use Rattle.std.specs.Prelude.{◌≡◌, ◌≢◌, ℕ, Some, IfSome, IfNone};
+ghost use Rattle.std.specs.Prelude.{◌≡◌, ◌≢◌, ℕ, Some, IfSome, IfNone, length};
 ghost use Rattle.std.specs.Option.{option_copied};
 ghost use Rattle.eco_ids.specs.Indices.{is_alive};
 ghost use Rattle.eco_tables.specs.Table.{TableRow};
 ghost use Rattle.eco_archetypes.specs.Archetypes.{row_at};
 ghost use Rattle.eco_places.specs.Records.{type_in_store};
-ghost use Rattle.eco_places.specs.Shown.{read, IsShown, IsStore};
+ghost use Rattle.eco_places.specs.Shown.{read, AreHoused, IsShown, IsStore};
 
 use eco_archetypes::Archetypes;
 use eco_entities::EntityIndex;
@@ -55,10 +55,11 @@ impl<'a> Places<'a> {
         self.archetypes
     }
 
-    /// The entities, each with its place.
+    /// The entities, each with its place in one of the tables.
     #[inline]
     pub fn entities(&self) -> &'a EntityIndex
         ensures store { IsStore result.now self.now.slots }
+        ensures housed { AreHoused (length self.now.slots) result.now }
         ensures seen { read result.now self.now.slots ≡ self.now.entities }
     {
         self.entities

@@ -1,5 +1,5 @@
 use Rattle.eco_answers.proofs.Common.{map, ap, ◌∙◌, IfOk-weaker, read, Standing}
-use Rattle.eco_answers.proofs.IndexWalk.{housed, walked_placed, walked_whose}
+use Rattle.eco_answers.proofs.IndexWalk.{walked_placed, walked_whose}
 use Rattle.eco_answers.proofs.Ranking.{ranked_placed, ranked_whose}
 use Rattle.eco_places.proofs.Shows.{shows}
 use Rattle.eco_answers.proofs.searching.standing_in.Goals as goal
@@ -37,6 +37,4 @@ returns-else-slots-gt1-clause-placed c =
     c.ranked.ensures.ranked
 
 pub walked-requires-clause-housed : goal.walked-requires-clause-housed
-walked-requires-clause-housed c =
-    let s = c.args.tables.now in
-    rw c.slot_count.ensures (housed c.args.entities.now s c.requires.store c.rows_have_ids.ensures)
+walked-requires-clause-housed c = rw c.slot_count.ensures c.requires.housed

@@ -157,6 +157,7 @@ impl Kept {
     ) -> bool
         ensures yes { IsTrue result → EndsInSet width entity value self.old self.new }
         ensures at { IsTrue result → place ≡ length (sets_of width self.old) }
+        ensures no { IsFalse result → KeepsSame self.old self.new }
         ensures kept { StaysKept self.old self.new }
     {
         match width {

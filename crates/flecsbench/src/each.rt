@@ -1,4 +1,7 @@
 //! Calls of a world or of a stage, one for each entity of some work at its turn, and what the yardstick does so often.
+//!
+//! Each loop is a function of its own, as it is in a program that has it: put into the choice of calls, it would have to share
+//! the processor's registers with all others.
 use crate::work::Work;
 use eco_bodies::record_command;
 use eco_ids::{Entity, Id, Refusal, Value};
@@ -6,6 +9,7 @@ use eco_world::{Command, Query, Stage, Values, World};
 use std::alloc::Global;
 
 /// Makes so many entities.
+#[inline(never)]
 pub fn create_each(world: &mut World, count: u32) -> Result<(), Refusal> {
     for _ in 0..count {
         world.create(None)?;
@@ -14,6 +18,7 @@ pub fn create_each(world: &mut World, count: u32) -> Result<(), Refusal> {
 }
 
 /// Makes an entity of each of the names.
+#[inline(never)]
 pub fn create_named_each(world: &mut World, names: &[String]) -> Result<(), Refusal> {
     for name in names {
         world.create(Some(name.as_str()))?;
@@ -31,6 +36,7 @@ pub fn add_each(world: &mut World, work: &Work) -> Result<(), Refusal> {
 }
 
 // Adds the id to each entity.
+#[inline(never)]
 fn add_to_all(world: &mut World, entities: &[Entity], id: Id) -> Result<(), Refusal> {
     for entity in entities {
         world.add(*entity, id)?;
@@ -39,6 +45,7 @@ fn add_to_all(world: &mut World, entities: &[Entity], id: Id) -> Result<(), Refu
 }
 
 // Adds to each entity the id of its turn.
+#[inline(never)]
 fn add_own(world: &mut World, work: &Work) -> Result<(), Refusal> {
     for (turn, entity) in work.entities().iter().enumerate() {
         if let Some(id) = work.id(turn) {
@@ -57,6 +64,7 @@ pub fn remove_each(world: &mut World, work: &Work) -> Result<(), Refusal> {
 }
 
 // Removes the id from each entity.
+#[inline(never)]
 fn remove_from_all(world: &mut World, entities: &[Entity], id: Id) -> Result<(), Refusal> {
     for entity in entities {
         world.remove(*entity, id)?;
@@ -65,6 +73,7 @@ fn remove_from_all(world: &mut World, entities: &[Entity], id: Id) -> Result<(),
 }
 
 // Removes from each entity the id of its turn.
+#[inline(never)]
 fn remove_own(world: &mut World, work: &Work) -> Result<(), Refusal> {
     for (turn, entity) in work.entities().iter().enumerate() {
         if let Some(id) = work.id(turn) {
@@ -92,6 +101,7 @@ pub fn set_each(world: &mut World, work: &Work, value: Value) -> Result<(), Refu
 }
 
 // Sets the id to the value at each entity.
+#[inline(never)]
 fn set_at_all(world: &mut World, entities: &[Entity], id: Id, value: Value) -> Result<(), Refusal> {
     for entity in entities {
         world.set(*entity, id, value)?;
@@ -100,6 +110,7 @@ fn set_at_all(world: &mut World, entities: &[Entity], id: Id, value: Value) -> R
 }
 
 // Sets the id of each turn to the value, at the entity of that turn.
+#[inline(never)]
 fn set_own(world: &mut World, work: &Work, value: Value) -> Result<(), Refusal> {
     for (turn, entity) in work.entities().iter().enumerate() {
         if let Some(id) = work.id(turn) {
@@ -110,6 +121,7 @@ fn set_own(world: &mut World, work: &Work, value: Value) -> Result<(), Refusal> 
 }
 
 /// Deletes each entity.
+#[inline(never)]
 pub fn delete_each(world: &mut World, work: &Work) -> Result<(), Refusal> {
     for entity in work.entities() {
         world.delete(*entity)?;
@@ -126,6 +138,7 @@ fn command_of(entity: Entity, id: Id, value: Option<Value>) -> Command {
 }
 
 /// The stage adds each id to its entity, or sets it to the value.
+#[inline(never)]
 pub fn record_each(stage: &mut Stage, work: &Work, value: Option<Value>) -> Result<(), Refusal> {
     for (turn, entity) in work.entities().iter().enumerate() {
         if let Some(id) = work.id(turn) {
@@ -150,6 +163,7 @@ pub fn record_life(
 }
 
 /// The sum of the first fields of the first id's values, entity by entity.
+#[inline(never)]
 pub fn sum_each(world: &World, work: &Work) -> i64 {
     let Some(id) = work.id(0) else {
         return 0;

@@ -5,6 +5,7 @@
 mod brought;
 mod holdings;
 mod implied;
+mod pair_traits;
 mod prospect;
 mod target;
 mod verdict;

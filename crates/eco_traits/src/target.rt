@@ -15,7 +15,8 @@ ghost use Rattle.eco_traits.specs.Target.{extended_by, left_by, without_replaced
 
 use crate::brought::{comes_freely, put_all, with_brought};
 use crate::holdings::Holdings;
-use crate::implied::{brings_any, closure_by, head_of};
+use crate::implied::{closure_by, head_of};
+use crate::pair_traits::PairTraits;
 use crate::prospect::{Prospect, foresee};
 use crate::verdict::{is_among, is_wrong_policy, verdict};
 use crate::walk::{has, has_pair_of, is_pair_of, may_reach};
@@ -75,6 +76,7 @@ pub fn target_type<H: Holdings>(
 
 /// What [`target_type`] answers for an id of which no more than [`Prospect::Open`] is foreseen: the entity lacks it, and
 /// each entity in it lives. It is refused as there.
+#[inline(always)]
 #[tactic(auto, using(crate::proofs::Plain::head_lives))]
 pub fn open_target<H: Holdings>(
     alloc: Global,
@@ -138,7 +140,7 @@ fn single_target<H: Holdings>(
 
 // What `open_target` does with a pair once it knows the types. A pair of an exclusive relationship mostly takes the place of
 // one other pair, and nothing else has to be known for that.
-#[inline(never)]
+#[inline(always)]
 fn pair_target<H: Holdings>(
     alloc: Global,
     holdings: &H,
@@ -172,6 +174,7 @@ fn pair_target<H: Holdings>(
 // The pair that a new pair replaces, or none, where that is all that the new one does, and nothing stands against it. No
 // answer where that takes more than a look at the pair's entities: the pair brings others along, replaces several, names
 // no action, ties a symmetric relationship to another, or may close a cycle.
+#[inline(always)]
 fn short_way<H: Holdings>(
     holdings: &H,
     entity: Entity,
@@ -195,13 +198,14 @@ fn short_way<H: Holdings>(
     if ties_symmetric(holdings, own, relationship, target) {
         return None;
     }
-    if brings_any(traits) {
+    let told = PairTraits::of(traits.as_slice());
+    if told.brings {
         return None;
     }
-    if may_close(holdings, entity, relationship, target, traits) {
+    if may_close(holdings, entity, relationship, target, told.is_acyclic) {
         return None;
     }
-    let replaced = replaced_by(own, relationship, traits)?;
+    let replaced = replaced_by(own, relationship, told.is_exclusive)?;
     Some(replaced)
 }
 
@@ -219,41 +223,31 @@ fn ties_symmetric<H: Holdings>(
         && (own.has(Id::One(SYMMETRIC)) || has(holdings, target, Id::One(SYMMETRIC)))
 }
 
-// Whether a pair may close a cycle at the entity, as far as that is known without a walk.
+// Whether a pair of a relationship that is acyclic, or not, may close a cycle at the entity, as far as that is known without a
+// walk.
 fn may_close<H: Holdings>(
     holdings: &H,
     entity: Entity,
     relationship: Entity,
     target: Entity,
-    traits: &TypeList,
+    is_acyclic: bool,
 ) -> bool
-    ensures { IsFalse result → IsTrue (has_item id_cmp traits.now (One ACYCLIC))
+    ensures { IsFalse result → IsTrue is_acyclic
         → Reaches (H.world holdings.now) relationship target entity → ⊥ }
 {
-    if has_single(traits, ACYCLIC) {
-        return may_reach(holdings, relationship, target, entity);
-    }
-    false
+    is_acyclic && may_reach(holdings, relationship, target, entity)
 }
 
-// Whether the single is among the ids of a relationship. They are mostly few: to look at each costs less than a search.
-#[inline]
-fn has_single(ids: &TypeList, single: Entity) -> bool
-    ensures { result ≡ has_item id_cmp ids.now (One single) }
-{
-    is_among(ids.as_slice(), Id::One(single))
-}
-
-// The pair among the ids that one more pair of the relationship replaces, or none; no answer where there are several.
-fn replaced_by(own: &TypeList, relationship: Entity, traits: &TypeList) -> Option<Option<Id>>
+// The pair among the ids that one more pair of the relationship replaces, if that is exclusive, or none; no answer where there
+// are several.
+fn replaced_by(own: &TypeList, relationship: Entity, is_exclusive: bool) -> Option<Option<Id>>
     ensures left { IfSome result (λ replaced. without_replaced replaced own.now ≡ filter
-        (λ id. not (has_item id_cmp traits.now (One EXCLUSIVE) && step.is_pair_of relationship id))
-        own.now) }
+        (λ id. not (is_exclusive && step.is_pair_of relationship id)) own.now) }
     ensures among { IfSome result (IsAmong own.now) }
     ensures ascending { IsTrue (is_ascending id_cmp own.now) }
 {
     let ids = own.as_slice();
-    if !has_single(traits, EXCLUSIVE) {
+    if !is_exclusive {
         return Some(None);
     }
     let Some(first) = first_pair_of(ids, relationship) else {

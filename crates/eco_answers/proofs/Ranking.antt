@@ -6,7 +6,9 @@ use Rattle.eco_answers.proofs.Common.{map-append, All-from_recursion, All-permut
 use Rattle.eco_answers.proofs.Common.{AscendingAreSets, TableRow, TableState, entities_of, slot_of, table_in, is_found_by, standing_in, entities_whose}
 use Rattle.eco_answers.proofs.Common.{in_first}
 use Rattle.eco_answers.proofs.Common.{AreRanked, standings, StandsIn, IsShown, record_ids, Standing}
-use Rattle.std.proofs.Common.{drop-cons}
+use Rattle.std.proofs.Common.{drop-cons, take, ◌≤◌}
+use Rattle.std.proofs.Math.Seq.{take-add}
+use Rattle.std.proofs.lemmas.List.{length-take-le}
 use Rattle.std.specs.Prelude.{slice_index_or}
 use Rattle.eco_places.proofs.Holders.{found_matches, row_kept, standing_apart, standing_whose, whose_ascend}
 use Rattle.eco_places.proofs.Sorting.{sorted_is}
@@ -109,3 +111,12 @@ module _ (w : Indexed Record) (tables : List (Option TableState)) (shown : IsSho
       (standing_apart w tables test shown ns distinct)
       (whose_ascend w test)
       (standing_whose w tables test shown ns (λ n h. found_matches test (slot_of tables n) (sym (listed n) ∙ h)) (λ n h. listed n ∙ h))
+
+-- ---- a list that is copied chunk by chunk
+
+-- one chunk more
+pub chunk_more : (es items more : List Entity) (n m : ℕ) → items ≡ take n es → n + m ≤ length es → more ≡ items ++ take m (drop n es)
+    → (length more ≡ n + m) × (more ≡ take (n + m) es)
+chunk_more es items more n m begun within h =
+    let all : more ≡ take (n + m) es = h ∙ ap (λ xs. xs ++ take m (drop n es)) begun ∙ sym (take-add n m es) in
+    (ap length all ∙ length-take-le (n + m) es within, all)

@@ -1,7 +1,8 @@
 -- Who stands in the tables of some slots.
 use Rattle.std.specs.Prelude.{◌≡◌, ◌≢◌, ℕ, ◌<◌, ◌+◌, zero, suc, List, [], ◌∷◌, ◌++◌, length, map, slice_index_or}
 use Rattle.std.specs.Prelude.{Option, None, Some, option_to_list}
-use Rattle.std.specs.List.Sorted.{IsPermutation, IsSortedByKey}
+use Rattle.std.specs.List.Sorted.{IsPermutation, IsSortedByKey, IsSortedWithin}
+use Rattle.std.specs.Ordering.{is_lt}
 use Rattle.eco_ids.specs.World.{Record}
 use Rattle.eco_ids.specs.Order.{entity_cmp}
 use Rattle.eco_ids.specs.Indices.{Indexed, IndexState}
@@ -27,6 +28,10 @@ standings i tables (n ∷ ns) = map (λ e. record { entity = e; place = i }) (en
 pub record AreRanked (ones ranked : List Standing) : Type 0 where
   pub all : IsPermutation ones ranked
   pub sorted : IsSortedByKey (λ (s : Standing). s.entity) entity_cmp ranked
+
+-- before this place no entity is below the one before it
+abbrev pub AscendTo : List Entity → ℕ → Type 0
+AscendTo es n = IsSortedWithin (λ (a b : Entity). is_lt (entity_cmp a b)) es 0 n
 
 -- the place is one of a slot whose table has the entity's own ids
 abbrev pub StandsIn : Indexed Record → List (Option TableState) → List ℕ → Standing → Type 0

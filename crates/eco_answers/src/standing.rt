@@ -1,10 +1,10 @@
 //! Who stands in the tables of some slots.
-ghost use Rattle.std.specs.Prelude.{◌≡◌, ◌<◌, ◌++◌, length, map, IfOk, IsTrue, OnOk, OnErr};
+ghost use Rattle.std.specs.Prelude.{◌≡◌, ◌<◌, ◌≤◌, ◌++◌, length, map, IfOk, IsTrue, OnOk, OnErr};
 ghost use Rattle.std.specs.List.Sorted.{IsSorted, IsSortedByKey};
 ghost use Rattle.eco_ids.specs.Order.{entity_cmp};
 ghost use Rattle.eco_tables.specs.Table.{entities_of};
 ghost use Rattle.eco_tables.specs.Tables.{table_in};
-ghost use Rattle.eco_answers.specs.Ranking.{in_first, standings, AreRanked};
+ghost use Rattle.eco_answers.specs.Ranking.{in_first, standings, AreRanked, AscendTo};
 ghost use Rattle.eco_answers.specs.declared.standing.Standing.{Standing as Stands};
 
 use crate::ranked::Ranked;
@@ -12,6 +12,9 @@ use eco_archetypes::{Archetypes, FoundSlots};
 use eco_ids::{Entity, TableSlot};
 use eco_tables::Tables;
 use std::alloc::{AllocError, Global};
+
+// So many entities take a part of the nearest cache.
+const CHUNK: usize = 1_024;
 
 /// An entity, and the place of its table among some.
 #[derive(Clone, Copy, Debug)]
@@ -55,23 +58,40 @@ fn alone(alloc: Global, entities: &[Entity]) -> Result<Ranked, AllocError>
     }
 }
 
-// The same of any number. Rows that were made one after another mostly ascend as they stand: they are copied at once, and nothing
-// is to do.
+// The same of any number. Rows that were made one after another mostly ascend as they stand, and nothing is to do.
 fn together(alloc: Global, entities: &[Entity]) -> Result<Ranked, AllocError>
     ensures { IfOk result (λ v. AreRanked (map in_first entities.now) v) }
 {
-    let mut list = Vec::from_slice(alloc, entities)?;
-    if !ascend(entities) {
+    let (mut list, ascends) = copied(alloc, entities)?;
+    if !ascends {
         list.sort_unstable();
     }
     Ok(Ranked::alone(list))
 }
 
-// Whether the entities ascend as they stand.
-fn ascend(entities: &[Entity]) -> bool
-    ensures { IsTrue result → IsSorted entity_cmp entities.now }
+// The same entities once more, and whether they ascend as they stand. Each chunk is looked at and copied while the nearest cache
+// holds it, so that many are fetched from memory once.
+fn copied(alloc: Global, entities: &[Entity]) -> Result<(Vec<Entity>, bool), AllocError>
+    ensures same { IfOk result (λ r. r.0.items ≡ entities.now) }
+    ensures ascending { IfOk result (λ r. IsTrue r.1 → IsSorted entity_cmp entities.now) }
 {
-    for place in 1..entities.len() {
+    let mut list = Vec::with_capacity(alloc, entities.len())?;
+    let mut ascends = true;
+    while list.len() < entities.len() {
+        let from = list.len();
+        let to = from + CHUNK.min(entities.len() - from);
+        ascends = ascends && ascend_on(entities, from, to);
+        list.extend_from_slice(&entities[from..to])?;
+    }
+    Ok((list, ascends))
+}
+
+// Whether the entities from one place on up to another ascend as they stand, and go on from the one before them.
+fn ascend_on(entities: &[Entity], from: usize, to: usize) -> bool
+    requires { to ≤ length entities.now }
+    ensures { IsTrue result → AscendTo entities.now from → AscendTo entities.now to }
+{
+    for place in from.max(1)..to {
         if entities[place].index <= entities[place - 1].index {
             return false;
         }

@@ -7,6 +7,7 @@ use Rattle.eco_world.proofs.Common.{Contains-get_or, Contains-permutation, IsPer
 use Rattle.eco_world.proofs.Common.{IsLayout, is_distinct, has_item, id_cmp, is_ascending, with_item, WorldState, is_alive, ascending_with, both, first, second}
 use Rattle.eco_world.proofs.Common.{with_present, or_left, or_right, id_cmp_total, same_id, TableRows, IsByType, listed, listed_of, type_of}
 use Rattle.std.specs.Cmp.{IsTotalOrder, on_total, tied_itself}
+use Rattle.std.proofs.lemmas.List.Sorted.{IsPermutation-cons, IsPermutation-insert, IsPermutation-refl, IsPermutation-trans}
 use Rattle.std.proofs.lemmas.Map.Keys.{IsDistinct-IsPermutation, IsDistinct-head, IsDistinct-tail}
 
 -- ---- elements of a list
@@ -163,6 +164,42 @@ module _ (x : ListedTable) where
         | inr d ↦ or_right (is_eq (by_type y x)) _ (has ys d)
       ]
 
+-- ---- tables of different types, put in order
+
+put_moves : (x : ListedTable) (ts : List ListedTable) → ((t : ListedTable) → Contains ts t → same_type x t ≡ false)
+    → IsPermutation (x ∷ ts) (with_item by_type ts x)
+put_moves x [] apart = IsPermutation-refl (x ∷ [])
+put_moves x (y ∷ ys) apart =
+    elim (by_type y x) as (λ r. by_type y x ≡ r
+    → IsPermutation (x ∷ y ∷ ys) (by_order r (y ∷ with_item by_type ys x) (y ∷ ys) (x ∷ y ∷ ys))) [
+      | Less ↦ λ e.
+          IsPermutation-trans (x ∷ y ∷ ys) (y ∷ x ∷ ys) (y ∷ with_item by_type ys x) (IsPermutation-insert (y ∷ ys) 1 x)
+          (IsPermutation-cons y (x ∷ ys) (with_item by_type ys x) (put_moves x ys (λ t c. apart t (there y t ys c))))
+      | Equal ↦ λ e. absurd (true≢false (sym (ap is_eq e) ∙ same_type_flips y x ∙ apart y (here y ys)))
+      | Greater ↦ λ e. IsPermutation-refl (x ∷ y ∷ ys)
+    ] refl
+
+each_of : {X : Type 0} (P : X → Type 0) (xs : List X) → AllByRecursion P xs → (x : X) → Contains xs x → P x
+each_of P [] all x c = absurd (no_element x c)
+each_of P (y ∷ ys) all x c = elim (element_cases y x ys c) as (λ _. P x) [ inl e ↦ subst P e all.0 | inr d ↦ each_of P ys all.1 x d ]
+
+abbrev in_order : List ListedTable → List ListedTable
+in_order [] = []
+in_order (t ∷ ts) = with_item by_type (in_order ts) t
+
+in_order_ascends : (ts : List ListedTable) → IsTrue (is_ascending by_type (in_order ts))
+in_order_ascends [] = refl
+in_order_ascends (t ∷ ts) = ascending_with by_type_total (in_order ts) t (in_order_ascends ts)
+
+in_order_moves : (ts : List ListedTable) → IsDistinct same_type ts → IsPermutation ts (in_order ts)
+in_order_moves [] distinct = IsPermutation-refl []
+in_order_moves (t ∷ ts) distinct =
+    let moved = in_order_moves ts (IsDistinct-tail same_type t ts distinct) in
+    IsPermutation-trans (t ∷ ts) (t ∷ in_order ts) (with_item by_type (in_order ts) t) (IsPermutation-cons t ts (in_order ts) moved)
+    (put_moves t (in_order ts)
+    (λ u c. each_of (λ v. same_type t v ≡ false) ts (IsDistinct-head same_type t ts distinct) u
+    (Contains-permutation (in_order ts) ts u (IsPermutation-sym ts (in_order ts) moved) c)))
+
 -- ---- many tables put in their places
 
 abbrev grown : List ListedTable → List ListedTable → List ListedTable
@@ -295,3 +332,14 @@ layout_around w passes tables others up covers picked rest = (
         let lives = (table.exact member.0).0 member.1 in
         let found = covers.all member.0 lives.0 (ap passes (sym lives.1) ∙ passed) in
         (found.0, found.1, found.2 ∙ sym lives.1)
+
+-- also where they do not ascend
+pub layout_beside : (w : WorldState) (passes : List Id → Bool) (tables others : List ListedTable) → IsDistinct same_type tables
+    → Covers w passes tables → ((t : ListedTable) → Contains tables t → passes t.ids ≡ true) → Covers w (λ _. true) others
+    → (layout : List ListedTable) × IsLayout w layout × IsPermutation (filter (λ t. passes t.ids) layout) tables
+layout_beside w passes tables others distinct covers picked rest =
+    let moved = in_order_moves tables distinct in
+    let back = IsPermutation-sym tables (in_order tables) moved in
+    let around = layout_around w passes (in_order tables) others (in_order_ascends tables) (covers_moved w passes tables (in_order tables) moved covers)
+    (λ t p. picked t (Contains-permutation (in_order tables) tables t back p)) rest in
+    (around.0, around.1, subst (λ ts. IsPermutation ts tables) around.2 back)

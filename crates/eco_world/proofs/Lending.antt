@@ -49,12 +49,12 @@ with_rows_in_slots w slots x p = let one = found_made (lent_of w) slots x p in (
 
 -- ---- what a row holds
 
-stands_held : (o : Option Record) (t : TableState) (row : ℕ) (r : TableRow) → Stands o t row → slice_get t.rows row ≡ Some r →
+pub stands_held : (o : Option Record) (t : TableState) (row : ℕ) (r : TableRow) → Stands o t row → slice_get t.rows row ≡ Some r →
     unwrap_or (option_map (λ (k : Record). k.held) o) [] ≡ r.held
 stands_held None t row r h at = absurd h
 stands_held (Some k) t row r h at = h.held r ∙ ap (λ (x : TableRow). x.held) (get_or_from_slice_get t.rows row r r at)
 
-rows_show : (w : WorldState) (i : Id) (rows : List TableRow)
+pub rows_show : (w : WorldState) (i : Id) (rows : List TableRow)
     → ((k : ℕ) (r : TableRow) → slice_get rows k ≡ Some r → held_by w r.entity ≡ r.held) →
     map (λ (r : TableRow). value_in r.held i) rows ≡ map (λ e. value_in (held_by w e) i) (entities_of rows)
 rows_show w i [] each = refl

@@ -2,6 +2,7 @@ pub mod Common
 pub mod Asking
 pub mod Cached
 pub mod Changes
+pub mod Columned
 pub mod Data
 pub mod Deleting
 pub mod Exact

@@ -14,6 +14,13 @@ use Rattle.eco_world.proofs.Layouts.{Covers, IsTable, all_of, element_cases, her
 itself : (n : ℕ) → nat_eq n n ≡ true
 itself n = (Decides-eqb n n).1 refl
 
+pub any_of : (ms : List ℕ) (n : ℕ) → Contains ms n → list_any (nat_eq n) ms ≡ true
+any_of [] n p = absurd (no_element n p)
+any_of (m ∷ ms) n p = elim (element_cases m n ms p) as (λ _. list_any (nat_eq n) (m ∷ ms) ≡ true) [
+  | inl e ↦ or_left (nat_eq n m) (list_any (nat_eq n) ms) (ap (nat_eq n) e ∙ itself n)
+  | inr c ↦ or_right (nat_eq n m) (list_any (nat_eq n) ms) (any_of ms n c)
+]
+
 -- ---- rows of a table
 
 row_of : (rows : List TableRow) (e : Entity) → Contains (entities_of rows) e
@@ -234,13 +241,6 @@ module _ (w : WorldState) (slots : List (Option TableState)) (shown : IsShown (e
       (λ n some _. with_rows_from slots n (table_in slots n) (table_there (slot_of slots n) some) some)
 
   -- ---- those that a test finds
-
-  any_of : (ms : List ℕ) (n : ℕ) → Contains ms n → list_any (nat_eq n) ms ≡ true
-  any_of [] n p = absurd (no_element n p)
-  any_of (m ∷ ms) n p = elim (element_cases m n ms p) as (λ _. list_any (nat_eq n) (m ∷ ms) ≡ true) [
-    | inl e ↦ or_left (nat_eq n m) (list_any (nat_eq n) ms) (ap (nat_eq n) e ∙ itself n)
-    | inr c ↦ or_right (nat_eq n m) (list_any (nat_eq n) ms) (any_of ms n c)
-  ]
 
   shown_to : (ns : List ℕ) (t : ListedTable) → Contains (map (shown_at slots) ns) t
       → (n : ℕ) × (list_any (nat_eq n) ns ≡ true) × (shown_at slots n ≡ t)

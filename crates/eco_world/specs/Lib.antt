@@ -1,6 +1,7 @@
 pub mod Actor
 pub mod Builtins
 pub mod Cached
+pub mod Columns
 pub mod Laws
 pub mod Layouts
 pub mod Losses

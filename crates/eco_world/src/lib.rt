@@ -2,6 +2,7 @@
 #![tactic(auto)]
 
 mod builtins;
+mod columns;
 mod entity_ref;
 mod kept_query;
 pub mod laws;
@@ -12,6 +13,7 @@ mod table_rows;
 mod type_order;
 mod world;
 
+pub use columns::{Column, Columns};
 pub use eco_answers::Results;
 pub use eco_query::{Access, Query, Slot, Term};
 pub use eco_stages::{Command, Kept, Recorded, Report, RunSet, Stage, Width};

@@ -1,16 +1,19 @@
 //! The tables that a world lists.
-ghost use Rattle.std.specs.Prelude.{◌≡◌, ◌<◌, All, IfOk, IsTrue, length, map, OnErr};
+ghost use Rattle.std.specs.Prelude.{◌≡◌, ◌<◌, [], All, IfNone, IfOk, IfSome, IsTrue, length, map, OnErr};
 ghost use Rattle.std.specs.List.Sorted.{IsPermutation};
+ghost use Rattle.eco_ids.specs.Data.{arity};
 ghost use Rattle.eco_ids.specs.Layout.{IsLayout};
+ghost use Rattle.eco_world.specs.Columns.{ListsColumns};
 ghost use Rattle.eco_world.specs.Queries.{is_answered, is_matched, is_passed};
 ghost use Rattle.eco_world.specs.Layouts.{HasTable, IsByType, IsWhole, lent, lent_at, LendsValues, listed, ListsBy, ListsOf, ListsWith};
 
+use crate::columns::Columns;
 use crate::table_rows::TableRows;
 use crate::type_order::is_below;
 use crate::world::World;
 use eco_answers::Asking;
 use eco_ids::{Id, Pattern, TableSlot};
-use eco_query::Query;
+use eco_query::{Query, exactly};
 use eco_store::{Tables, TypeTest};
 use std::alloc::AllocError;
 
@@ -58,6 +61,23 @@ impl World {
         ensures some { OnErr result (IsTrue (is_answered self.now query.now)) }
     {
         self.tables_by(&Asking { query, cache: None })
+    }
+
+    /// The columns of an id (Flecs manual, Queries, archetypes): for each type that has the id, who has that type and their
+    /// values of the id, all of it to be read in one loop. Columns come in any order, and so do the entities of each. A table
+    /// that lost its last entity is kept for a while, and its column has no rows then. An id that is no data has no columns.
+    ///
+    /// It takes no memory. Each column is found when it is asked for, in a time that does not grow with its rows.
+    pub fn columns(&self, id: Id) -> Columns<'_>
+        ensures data { IfSome (arity self.now id) (λ fields. ListsColumns self.now id result) }
+        ensures none { IfNone (arity self.now id) (result ≡ []) }
+    {
+        let archetypes = self.store.archetypes();
+        let tables = archetypes.tables();
+        if self.arity(id).is_none() {
+            return Columns::of(id, &[], tables);
+        }
+        Columns::of(id, archetypes.listed(exactly(id)), tables)
     }
 
     // The tables whose type passes the test.

@@ -147,6 +147,25 @@ fn print_all_courses<R: Print>(rt: &R, world: &World, terms: Terms) -> Result<()
     Ok(())
 }
 
+// The places added to a sum of places.
+fn added(mut sum: [i64; 2], places: &[[i64; 2]]) -> [i64; 2] {
+    for place in places {
+        sum = [sum[0].wrapping_add(place[0]), sum[1].wrapping_add(place[1])];
+    }
+    sum
+}
+
+// All values of one component: they are lent column by column, without a query and without memory.
+fn print_sum<R: Print>(rt: &R, world: &World, terms: Terms) -> io::Result<()> {
+    let mut sum = [0, 0];
+    for column in world.columns(Id::One(terms.position)) {
+        if let Values::Two(places) = column.values {
+            sum = added(sum, places);
+        }
+    }
+    println!(rt; "the ships' places add up to {} {}", sum[0], sum[1])
+}
+
 // Where a ship is: a value is written with as many fields as its component has.
 fn print_place<R: Print>(rt: &R, world: &World, ship: Entity, position: Entity) -> io::Result<()> {
     let Some(value) = world.get(ship, Id::One(position)) else {
@@ -193,6 +212,7 @@ fn show_all<R: Print + Threads + Sync + AllocGlobal>(rt: &R, world: &mut World) 
     print_found(rt, world)?;
     print_ships(rt, world, terms, harbor, fleet)?;
     print_all_courses(rt, world, terms)?;
+    print_sum(rt, world, terms)?;
     print_refusal(rt, world)?;
     close_quay(rt, world, harbor, fleet)?;
     frames::show(rt, world, fleet.heron, terms.position)

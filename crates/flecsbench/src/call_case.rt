@@ -175,6 +175,13 @@ pub const CALL_CASES: &[CallCase] = &[
         Calls::SumColumns,
     ),
     CallCase(
+        "tables_sum/100",
+        LARGE,
+        100,
+        Start::Columns,
+        Calls::SumTables,
+    ),
+    CallCase(
         "query_none",
         SMALL,
         10_000,

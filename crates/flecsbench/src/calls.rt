@@ -19,8 +19,10 @@ pub enum Calls {
     Get,
     /// The first fields of a plain slice of rows are added up, each of which is 1: the yardstick for columns.
     SumSlice,
-    /// The first fields of the first id's values are added up, table by table, each of which is 1.
+    /// The first fields of the first id's values are added up, column by column, each of which is 1.
     SumColumns,
+    /// The same, by a list of the query's tables.
+    SumTables,
     /// The first id is removed from all entities by one call.
     RemoveAll,
     /// Each entity is deleted.

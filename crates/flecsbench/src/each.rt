@@ -186,7 +186,19 @@ pub fn sum_first(rows: &[[i64; 2]]) -> i64 {
     sum
 }
 
-/// The sum of the first fields of the id's values, of all tables of the query.
+/// The sum of the first fields of the id's values, column by column.
+#[inline(never)]
+pub fn sum_columns(world: &World, id: Id) -> i64 {
+    let mut sum: i64 = 0;
+    for column in world.columns(id) {
+        if let Values::Two(rows) = column.values {
+            sum = sum.wrapping_add(sum_first(rows));
+        }
+    }
+    sum
+}
+
+/// The same, of all tables of the query.
 pub fn sum_tables(world: &World, query: &Query, id: Id) -> Result<i64, Refusal> {
     let mut sum: i64 = 0;
     for table in &world.tables_of(query)? {

@@ -2,7 +2,7 @@
 use crate::calls::Calls;
 use crate::each::{
     add_each, count_each, create_each, create_named_each, delete_each, record_each, record_life,
-    remove_each, set_each, sum_each, sum_first, sum_tables, toggle_each,
+    remove_each, set_each, sum_columns, sum_each, sum_first, sum_tables, toggle_each,
 };
 use crate::group::{Group, Ids};
 use crate::setup::Pick;
@@ -99,7 +99,8 @@ impl Setting {
             Calls::Set => is_done(self.set(Value::of([5, 6]))),
             Calls::Get => Ok(sum_each(&self.world, &self.work) == i64::from(size)),
             Calls::SumSlice => Ok(sum_first(&self.rows) == i64::from(size)),
-            Calls::SumColumns => self.sum_columns(size),
+            Calls::SumColumns => Ok(self.sum_columns(size)),
+            Calls::SumTables => self.sum_tables(size),
             Calls::RemoveAll => is_done(self.remove_from_all()),
             Calls::Delete => is_done(self.delete()),
             Calls::DeleteWith => is_done(self.delete_with()),
@@ -265,8 +266,16 @@ impl Setting {
         }
     }
 
-    // Whether the first fields of the first id's values, of all tables of the query, have this sum.
-    fn sum_columns(&self, sum: u32) -> Result<bool, Refusal> {
+    // Whether the first fields of the first id's values have this sum.
+    fn sum_columns(&self, sum: u32) -> bool {
+        match self.work.id(0) {
+            Some(id) => sum_columns(&self.world, id) == i64::from(sum),
+            None => false,
+        }
+    }
+
+    // The same, of all tables of the query.
+    fn sum_tables(&self, sum: u32) -> Result<bool, Refusal> {
         match (&self.query, self.work.id(0)) {
             (Some(query), Some(id)) => Ok(sum_tables(&self.world, query, id)? == i64::from(sum)),
             _ => Ok(false),
@@ -275,7 +284,7 @@ impl Setting {
 
     /// Reads all values of the query's tables once.
     pub fn read_columns(&self) -> Result<(), Refusal> {
-        let _is_right = self.sum_columns(0)?;
+        let _is_right = self.sum_tables(0)?;
         Ok(())
     }
 

@@ -1,5 +1,5 @@
 //! Who stands in the tables of some slots.
-ghost use Rattle.std.specs.Prelude.{◌≡◌, ◌<◌, ◌≤◌, ◌++◌, length, map, IfOk, IsTrue, OnOk, OnErr};
+ghost use Rattle.std.specs.Prelude.{◌≡◌, ◌+◌, ◌-◌, ◌<◌, ◌≤◌, ◌++◌, length, map, IfOk, IsTrue, OnOk, OnErr};
 ghost use Rattle.std.specs.List.Sorted.{IsSorted, IsSortedByKey};
 ghost use Rattle.eco_ids.specs.Order.{entity_cmp};
 ghost use Rattle.eco_tables.specs.Table.{entities_of};
@@ -13,8 +13,11 @@ use eco_ids::{Entity, TableSlot};
 use eco_tables::Tables;
 use std::alloc::{AllocError, Global};
 
-// So many entities take a part of the nearest cache.
-const CHUNK: usize = 1_024;
+// So many entities take a small part of the nearest cache. Of a million rows, longer chunks took more time.
+const CHUNK: usize = 128;
+
+// So many are compared with no test of the place between them.
+const RUN: usize = 8;
 
 /// An entity, and the place of its table among some.
 #[derive(Clone, Copy, Debug)]
@@ -86,13 +89,31 @@ fn copied(alloc: Global, entities: &[Entity]) -> Result<(Vec<Entity>, bool), All
     Ok((list, ascends))
 }
 
-// Whether the entities from one place on up to another ascend as they stand, and go on from the one before them.
+// Whether the entities from one place on up to another ascend as they stand, and go on from the one before them. Most are taken in
+// runs of a fixed length, since the compiler unrolls such a loop.
 fn ascend_on(entities: &[Entity], from: usize, to: usize) -> bool
-    requires { to ≤ length entities.now }
+    requires ordered { from ≤ to }
+    requires within { to ≤ length entities.now }
     ensures { IsTrue result → AscendTo entities.now from → AscendTo entities.now to }
 {
-    for place in from.max(1)..to {
-        if entities[place].index <= entities[place - 1].index {
+    let mut place = from.max(1);
+    while place + RUN <= to {
+        if !run_ascends(entities, place, RUN) {
+            return false;
+        }
+        place += RUN;
+    }
+    run_ascends(entities, place, to.saturating_sub(place))
+}
+
+// The same of so many entities from a place on, one by one.
+fn run_ascends(entities: &[Entity], place: usize, count: usize) -> bool
+    requires after { 0 < place }
+    requires within { count ≤ length entities.now - place }
+    ensures { IsTrue result → AscendTo entities.now place → AscendTo entities.now (place + count) }
+{
+    for step in 0..count {
+        if entities[place + step].index <= entities[place + step - 1].index {
             return false;
         }
     }

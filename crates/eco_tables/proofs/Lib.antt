@@ -2,6 +2,7 @@ pub mod Common
 pub mod Copies
 pub mod Held
 pub mod Kept
+pub mod Moved
 pub mod Packing
 pub mod RowIds
 pub mod Rows

@@ -221,6 +221,22 @@ fn push<const N: usize>(rows: &mut Vec<[i64; N]>, source: &Vec<[i64; N]>, row: u
     rows.push_reserved(source[row]);
 }
 
+// The fields of a row of another column go behind the own, in reserved room, and the last ones there take their place.
+#[inline(always)]
+#[tactic(auto, using(crate::proofs::Packing::map_swap_remove))]
+fn move_one<const N: usize>(rows: &mut Vec<[i64; N]>, source: &mut Vec<[i64; N]>, row: usize)
+    requires room { 0 < vec_capacity rows.old - vec_len rows.old }
+    requires row { row < length (map padded source.old.items) }
+    ensures values { map padded rows.new.items
+        ≡ map padded rows.old.items ++ slice_index_or (map padded source.old.items) row zeros ∷ [] }
+    ensures room { vec_capacity rows.new - vec_len rows.new ≡ vec_capacity rows.old - vec_len rows.old - 1 }
+    ensures left { map padded source.new.items ≡ swap_remove (map padded source.old.items) row zeros }
+    ensures won { vec_capacity source.new - vec_len source.new
+        ≡ vec_capacity source.old - vec_len source.old + 1 }
+{
+    rows.push_reserved(source.swap_remove(row));
+}
+
 // The row's fields go, and the last ones take their place.
 #[tactic(auto, using(crate::proofs::Packing::map_swap_remove))]
 fn take_out<const N: usize>(rows: &mut Vec<[i64; N]>, row: usize)
@@ -421,6 +437,23 @@ impl Column {
             &mut self.fields,
             &source.fields,
             |rows, others| push(rows, others, row)
+        )
+    }
+
+    /// A value for one more row, in reserved room: that of a row of another column of as many fields, where it goes, and the last
+    /// one takes its place.
+    #[inline(always)]
+    pub fn take_from(&mut self, source: &mut Column, row: usize)
+        requires room { 0 < self.old.room }
+        requires row { row < length source.old.values }
+        requires width { self.old.width ≡ source.old.width }
+        ensures taken { self.new ≡ pushed self.old (slice_index_or source.old.values row zeros) }
+        ensures left { source.new ≡ with_removed source.old row }
+    {
+        at_equal_widths!(
+            &mut self.fields,
+            &mut source.fields,
+            |rows, others| move_one(rows, others, row)
         )
     }
 

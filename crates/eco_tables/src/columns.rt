@@ -1,7 +1,7 @@
 //! What is done to all columns of a table. They ascend by their ids, and an id that is no data has none.
 ghost use Rattle.std.specs.Prelude.{◌≡◌, ℕ, ◌<◌, ◌≤◌, ◌+◌, [], ◌∷◌, length, map, slice_get, slice_index_or, is_some};
 ghost use Rattle.std.specs.Prelude.{IsTrue, None, Some, OnOk, IfOk, IfSome, IfNone, false, not, vec_len, vec_capacity};
-ghost use Rattle.std.specs.Prelude.{◌↔◌};
+ghost use Rattle.std.specs.Prelude.{◌↔◌, ◌++◌, drop, take};
 ghost use Rattle.std.specs.List.{All, position_from};
 ghost use Rattle.std.specs.FinMap.Entries.{find};
 ghost use Rattle.std.specs.Ordering.{is_lt};
@@ -235,36 +235,94 @@ pub fn clear(columns: &mut [Column])
     }
 }
 
-/// A place for one more row in each, with the values of a row elsewhere: zeros for an id that has no column there.
+/// A row's values go to other columns, where they are the last ones: zeros for an id that had no column. The last values take
+/// their place.
 #[inline(always)]
-pub fn push_from(columns: &mut [Column], source: &[Column], row: usize)
+pub fn move_row(columns: &mut [Column], source: &mut [Column], row: usize)
     requires room { All (λ c. 0 < c.room) columns.old }
-    requires ascending { IsTrue (is_ascending id_cmp (map (λ c. c.id) source.now)) }
-    requires row { All (λ c. row < length c.values) source.now }
-    requires widths { ColumnsAgree columns.old source.now }
-    ensures { columns.new ≡ map (λ c. pushed c (value_in (held_in source.now row) c.id)) columns.old }
+    requires sorted { IsTrue (is_ascending id_cmp (map (λ c. c.id) columns.old)) }
+    requires ascending { IsTrue (is_ascending id_cmp (map (λ c. c.id) source.old)) }
+    requires row { All (λ c. row < length c.values) source.old }
+    requires widths { ColumnsAgree columns.old source.old }
+    ensures taken { columns.new ≡ map (λ c. pushed c (value_in (held_in source.old row) c.id)) columns.old }
+    ensures left { source.new ≡ map (λ c. with_removed c row) source.old }
 {
     if columns.is_empty() {
-        return;
-    }
-    if source.is_empty() {
+        swap_out_row(source, row);
+    } else if source.is_empty() {
         push_zeros(columns);
-        return;
+    } else {
+        move_each(columns, source, row);
     }
-    push_each_from(columns, source, row);
 }
 
-// What `push_from` does where there are columns, apart, so that rows without values cost no more than a look at them.
+// What `move_row` does where both have columns, apart, so that rows without values cost no more than a look at them.
 //
-// Both lists ascend by their ids, so the next column is mostly found beside the last one.
+// Mostly all ids that are data stay, and each value goes straight to the column of its place.
 #[inline(never)]
-fn push_each_from(columns: &mut [Column], source: &[Column], row: usize)
+fn move_each(columns: &mut [Column], source: &mut [Column], row: usize)
+    requires room { All (λ c. 0 < c.room) columns.old }
+    requires sorted { IsTrue (is_ascending id_cmp (map (λ c. c.id) columns.old)) }
+    requires ascending { IsTrue (is_ascending id_cmp (map (λ c. c.id) source.old)) }
+    requires row { All (λ c. row < length c.values) source.old }
+    requires widths { ColumnsAgree columns.old source.old }
+    ensures taken { columns.new ≡ map (λ c. pushed c (value_in (held_in source.old row) c.id)) columns.old }
+    ensures left { source.new ≡ map (λ c. with_removed c row) source.old }
+{
+    let count = move_alike(columns, source, row);
+    move_rest(&mut columns[count..], &mut source[count..], row);
+}
+
+// As long as the columns in one place after another have the same id, the row's values go from one to the other. The answer is
+// how many do.
+#[inline(always)]
+fn move_alike(columns: &mut [Column], source: &mut [Column], row: usize) -> usize
+    requires room { All (λ c. 0 < c.room) columns.old }
+    requires ascending { IsTrue (is_ascending id_cmp (map (λ c. c.id) source.old)) }
+    requires row { All (λ c. row < length c.values) source.old }
+    requires widths { ColumnsAgree columns.old source.old }
+    ensures here { result ≤ length columns.old }
+    ensures there { result ≤ length source.old }
+    ensures alike { take result (map (λ c. c.id) columns.old) ≡ take result (map (λ c. c.id) source.old) }
+    ensures taken { columns.new ≡ map (λ c. pushed c (value_in (held_in source.old row) c.id))
+        (take result columns.old) ++ drop result columns.old }
+    ensures left { source.new ≡ map (λ c. with_removed c row) (take result source.old) ++ drop result source.old }
+{
+    let mut place = 0;
+    while place < columns.len()
+        && place < source.len()
+        && columns[place].id().is(source[place].id())
+    {
+        columns[place].take_from(&mut source[place], row);
+        place += 1;
+    }
+    place
+}
+
+// The same as `move_row`, where the columns differ.
+#[inline(always)]
+fn move_rest(columns: &mut [Column], source: &mut [Column], row: usize)
+    requires room { All (λ c. 0 < c.room) columns.old }
+    requires ascending { IsTrue (is_ascending id_cmp (map (λ c. c.id) source.old)) }
+    requires row { All (λ c. row < length c.values) source.old }
+    requires widths { ColumnsAgree columns.old source.old }
+    ensures taken { columns.new ≡ map (λ c. pushed c (value_in (held_in source.old row) c.id)) columns.old }
+    ensures left { source.new ≡ map (λ c. with_removed c row) source.old }
+{
+    push_from(columns, source, row);
+    swap_out_row(source, row);
+}
+
+// A place for one more row in each, with the values of a row elsewhere: zeros for an id that has no column there.
+#[inline(always)]
+fn push_from(columns: &mut [Column], source: &[Column], row: usize)
     requires room { All (λ c. 0 < c.room) columns.old }
     requires ascending { IsTrue (is_ascending id_cmp (map (λ c. c.id) source.now)) }
     requires row { All (λ c. row < length c.values) source.now }
     requires widths { ColumnsAgree columns.old source.now }
     ensures { columns.new ≡ map (λ c. pushed c (value_in (held_in source.now row) c.id)) columns.old }
 {
+    // Both lists ascend by their ids, so the next column is mostly found beside the last one.
     let mut near = 0;
     for column in columns.iter_mut() {
         match find_near(source, near, column.id()) {

@@ -18,7 +18,7 @@ ghost use Rattle.eco_tables.specs.Values.{fields_of, whole_values};
 
 use crate::column::Column;
 use crate::columns::{
-    are_alike, clear, columns_of, copy_all, find_column, find_value, join_all, push_from,
+    are_alike, clear, columns_of, copy_all, find_column, find_value, join_all, move_row,
     push_zeros, reserve, shrink, swap_out_row, write_value,
 };
 use crate::values::Values;
@@ -283,19 +283,24 @@ impl Table {
         self.room = room;
     }
 
-    /// A row for the entity, with the values of a row elsewhere: of ids that both types have, which are as wide in both; new
-    /// ids hold zeros.
+    /// A row of another table goes to the end of this one, with the values of ids that both types have, which are as wide in both;
+    /// new ids hold zeros. Into its place there the last row goes, and the room of one row is won there. It takes no memory. The
+    /// answer is the entity that stands in the row's place now: none where the row was the last.
     #[inline(always)]
-    pub fn push_row_from(&mut self, source: &Table, row: usize)
+    pub fn take_row(&mut self, source: &mut Table, row: usize) -> Option<Entity>
         requires room { 0 < self.old.room }
-        requires row { row < length source.now.rows }
-        requires widths { Agree self.old source.now }
-        ensures { self.new ≡ with_row self.old (slice_index_or source.now.rows row no_row) }
+        requires row { row < length source.old.rows }
+        requires widths { Agree self.old source.old }
+        ensures taken { self.new ≡ with_row self.old (slice_index_or source.old.rows row no_row) }
+        ensures left { source.new ≡ without_row source.old row }
+        ensures moved { result ≡ slice_get (entities_of source.new.rows) row }
     {
-        let entity = source.entities[row];
+        let entity = source.entities.swap_remove(row);
         self.entities.push_reserved(entity);
-        push_from(self.columns.as_mut_slice(), source.columns.as_slice(), row);
+        move_row(self.columns.as_mut_slice(), source.columns.as_mut_slice(), row);
         self.room -= 1;
+        source.room += 1;
+        entity_at(source.entities.as_slice(), row)
     }
 
     /// All rows of another table go to the end of this one, with the values of ids that both types have, which are as wide in

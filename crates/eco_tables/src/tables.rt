@@ -394,10 +394,7 @@ fn move_between(
         slice_get (entities_of (without_row (unwrap_or source.old no_table) row).rows) row }
 {
     match (source, target) {
-        (Some(source), Some(target)) => {
-            target.push_row_from(source, row);
-            source.swap_out(row)
-        }
+        (Some(source), Some(target)) => target.take_row(source, row),
         _ => unreachable!(),
     }
 }

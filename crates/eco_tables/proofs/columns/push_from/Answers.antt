@@ -1,7 +1,7 @@
 use Rattle.eco_tables.proofs.Common.{◌<◌, arith, ap, sym, ◌∙◌, get_or, length, unwrap_or, refl, zeros, ColumnState, pushed, value_in, held_in}
 use Rattle.eco_tables.proofs.Held.{find-absent, found_at, mapped_all, mapped_more, not_yet, not_yet_all, place_id, place_within}
-use Rattle.eco_tables.proofs.columns.push_each_from.Goals.{in-Some, in-None}
-use Rattle.eco_tables.proofs.columns.push_each_from.Goals as goal
+use Rattle.eco_tables.proofs.columns.push_from.Goals.{in-Some, in-None}
+use Rattle.eco_tables.proofs.columns.push_from.Goals as goal
 
 pub find_near-requires : goal.find_near-requires
 find_near-requires c = c.requires.ascending

@@ -1,5 +1,5 @@
 use Rattle.eco_tables.proofs.Common.{◌≡◌, ◌++◌, map, take, drop, pushed, value_in, held_in}
-use Rattle.eco_tables.proofs.columns.push_each_from.Given as goal
+use Rattle.eco_tables.proofs.columns.push_from.Given as goal
 
 abbrev pub invariant-loop-column : goal.invariant-loop-column
 invariant-loop-column l = l.columns ≡ map (λ c. pushed c (value_in (held_in l.source l.row) c.id))

@@ -147,6 +147,11 @@ is_own_type With = false
 is_own_type (Instead old) = false
 is_own_type (Other ids) = false
 
+-- the target of an id that comes in the place of the one that is replaced, or alone
+abbrev pub target_by : Option Id → Target
+target_by None = With
+target_by (Some old) = Instead old
+
 -- an id that gives its place up is one that e has
 abbrev pub TakesOwn : WorldState → Entity → Target → Type 0
 TakesOwn w e Own = Unit {0}

@@ -14,5 +14,5 @@ mod walk;
 pub use holdings::Holdings;
 pub use implied::closure;
 pub use prospect::{Prospect, comes_alone, foresee};
-pub use target::{Target, open_target, target_type};
+pub use target::{Target, closed_type, open_target, short_target, target_type};
 pub use walk::{has, reached, reaches};

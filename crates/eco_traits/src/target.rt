@@ -11,7 +11,7 @@ ghost use Rattle.eco_ids.specs.World as world;
 ghost use Rattle.eco_traits.specs.Closure.{head_of};
 ghost use Rattle.eco_ids.specs.Traits.{Reaches};
 ghost use Rattle.eco_traits.specs.Target.{FindsTarget, FindsType, is_own_type, IsAmong, IsSound, TakesOwn, Replaces};
-ghost use Rattle.eco_traits.specs.Target.{extended_by, left_by, without_replaced, ties, type_of_entity};
+ghost use Rattle.eco_traits.specs.Target.{extended_by, left_by, target_by, without_replaced, ties, type_of_entity};
 
 use crate::brought::{comes_freely, put_all, with_brought};
 use crate::holdings::Holdings;
@@ -77,7 +77,6 @@ pub fn target_type<H: Holdings>(
 /// What [`target_type`] answers for an id of which no more than [`Prospect::Open`] is foreseen: the entity lacks it, and
 /// each entity in it lives. It is refused as there.
 #[inline(always)]
-#[tactic(auto, using(crate::proofs::Plain::head_lives))]
 pub fn open_target<H: Holdings>(
     alloc: Global,
     holdings: &H,
@@ -92,83 +91,84 @@ pub fn open_target<H: Holdings>(
     ensures own { IfOk result (λ target. is_own_type target ≡ has (H.world holdings.now) entity id) }
     ensures there { IfOk result (TakesOwn (H.world holdings.now) entity) }
 {
-    let own = holdings.type_of(entity).unwrap();
-    let traits = holdings.type_of(head_of(id)).unwrap();
-    match id {
-        Id::One(single) => single_target(alloc, holdings, entity, own, single, traits),
-        Id::Two(relationship, target) => pair_target(
-            alloc,
-            holdings,
-            entity,
-            own,
-            relationship,
-            target,
-            traits,
-        ),
-    }
-}
-
-// What `open_target` does with a single id once it knows the types. Mostly it brings others along, and no more than that has
-// to be known.
-#[inline(never)]
-fn single_target<H: Holdings>(
-    alloc: Global,
-    holdings: &H,
-    entity: Entity,
-    own: &TypeList,
-    single: Entity,
-    traits: &TypeList,
-) -> Result<Target, Refusal>
-    requires lives { IsTrue (world.names_living (H.world holdings.now) (One single)) }
-    requires absent { IsFalse (world.has (H.world holdings.now) entity (One single)) }
-    requires sound { IsSound (H.world holdings.now) }
-    requires own { Some own.now ≡ type_of_entity (H.world holdings.now) entity }
-    requires traits { Some traits.now ≡ type_of_entity (H.world holdings.now) single }
-    ensures target { FindsTarget (H.world holdings.now) entity (One single) result }
-    ensures own { IfOk result (λ target. is_own_type target
-        ≡ has (H.world holdings.now) entity (One single)) }
-    ensures there { IfOk result (TakesOwn (H.world holdings.now) entity) }
-{
-    if comes_freely(holdings, single, traits.as_slice()) {
-        let ids = with_brought(alloc, own, single, traits.as_slice())?;
-        return Ok(Target::Other(ids));
-    }
-    let added = Id::One(single);
-    let ids = closed_type(alloc, holdings, entity, own, added, traits)?;
-    Ok(Target::Other(ids))
-}
-
-// What `open_target` does with a pair once it knows the types. A pair of an exclusive relationship mostly takes the place of
-// one other pair, and nothing else has to be known for that.
-#[inline(always)]
-fn pair_target<H: Holdings>(
-    alloc: Global,
-    holdings: &H,
-    entity: Entity,
-    own: &TypeList,
-    relationship: Entity,
-    target: Entity,
-    traits: &TypeList,
-) -> Result<Target, Refusal>
-    requires lives { IsTrue (world.names_living (H.world holdings.now) (Two relationship target)) }
-    requires absent { IsFalse (world.has (H.world holdings.now) entity (Two relationship target)) }
-    requires sound { IsSound (H.world holdings.now) }
-    requires own { Some own.now ≡ type_of_entity (H.world holdings.now) entity }
-    requires traits { Some traits.now ≡ type_of_entity (H.world holdings.now) relationship }
-    ensures target { FindsTarget (H.world holdings.now) entity (Two relationship target) result }
-    ensures own { IfOk result (λ answer. is_own_type answer
-        ≡ has (H.world holdings.now) entity (Two relationship target)) }
-    ensures there { IfOk result (TakesOwn (H.world holdings.now) entity) }
-{
-    let Some(replaced) = short_way(holdings, entity, own, relationship, target, traits) else {
-        let added = Id::Two(relationship, target);
-        let ids = closed_type(alloc, holdings, entity, own, added, traits)?;
+    let Some(replaced) = short_target(holdings, entity, id) else {
+        let ids = closed_type(alloc, holdings, entity, id)?;
         return Ok(Target::Other(ids));
     };
     let Some(old) = replaced else {
         return Ok(Target::With);
     };
     Ok(Target::Instead(old))
+}
+
+/// What [`open_target`] answers where a look at the entities of a pair tells: the id whose place the pair takes
+/// ([`Target::Instead`]), or none ([`Target::With`]). A pair of an exclusive relationship mostly takes the place of one
+/// other pair, and nothing else has to be known for that.
+///
+/// No answer where it takes more than such a look, as for each single id; [`closed_type`] tells it then.
+#[inline(always)]
+pub fn short_target<H: Holdings>(holdings: &H, entity: Entity, id: Id) -> Option<Option<Id>>
+    requires alive { IsTrue (lives (H.world holdings.now) entity) }
+    requires living { world.names_living (H.world holdings.now) id ≡ true }
+    requires absent { has (H.world holdings.now) entity id ≡ false }
+    requires sound { IsSound (H.world holdings.now) }
+    ensures target { IfSome result
+        (λ replaced. FindsTarget (H.world holdings.now) entity id (Ok (target_by replaced))) }
+    ensures there { IfSome result
+        (λ replaced. TakesOwn (H.world holdings.now) entity (target_by replaced)) }
+{
+    let Id::Two(relationship, target) = id else {
+        return None;
+    };
+    let own = holdings.type_of(entity).unwrap();
+    let traits = holdings.type_of(relationship).unwrap();
+    short_way(holdings, entity, own, relationship, target, traits)
+}
+
+/// The type of [`open_target`]'s answer, for any id, from all that the id brings along. It is refused as there.
+#[inline(never)]
+#[tactic(auto, using(crate::proofs::Plain::head_lives))]
+pub fn closed_type<H: Holdings>(
+    alloc: Global,
+    holdings: &H,
+    entity: Entity,
+    id: Id,
+) -> Result<TypeList, Refusal>
+    requires alive { IsTrue (lives (H.world holdings.now) entity) }
+    requires living { world.names_living (H.world holdings.now) id ≡ true }
+    requires absent { has (H.world holdings.now) entity id ≡ false }
+    requires sound { IsSound (H.world holdings.now) }
+    ensures { FindsType (H.world holdings.now) entity id result }
+{
+    let own = holdings.type_of(entity).unwrap();
+    let traits = holdings.type_of(head_of(id)).unwrap();
+    match id {
+        Id::One(single) => single_type(alloc, holdings, entity, own, single, traits),
+        Id::Two(..) => judged_type(alloc, holdings, entity, own, id, traits),
+    }
+}
+
+// What `closed_type` does with a single id once it knows the types. Mostly it brings others along, and no more than that has
+// to be known.
+fn single_type<H: Holdings>(
+    alloc: Global,
+    holdings: &H,
+    entity: Entity,
+    own: &TypeList,
+    single: Entity,
+    traits: &TypeList,
+) -> Result<TypeList, Refusal>
+    requires lives { IsTrue (world.names_living (H.world holdings.now) (One single)) }
+    requires absent { IsFalse (world.has (H.world holdings.now) entity (One single)) }
+    requires sound { IsSound (H.world holdings.now) }
+    requires own { Some own.now ≡ type_of_entity (H.world holdings.now) entity }
+    requires traits { Some traits.now ≡ type_of_entity (H.world holdings.now) single }
+    ensures { FindsType (H.world holdings.now) entity (One single) result }
+{
+    if comes_freely(holdings, single, traits.as_slice()) {
+        return Ok(with_brought(alloc, own, single, traits.as_slice())?);
+    }
+    judged_type(alloc, holdings, entity, own, Id::One(single), traits)
 }
 
 // The pair that a new pair replaces, or none, where that is all that the new one does, and nothing stands against it. No
@@ -274,10 +274,10 @@ fn has_other_pair_of(ids: &[Id], relationship: Entity, first: Id) -> bool
         .any(|id| is_pair_of(*id, relationship) && !id.is(first))
 }
 
-// The type that an absent id leads to where no short way tells. Rare beside those.
+// The type that an absent id leads to, once all that stands against its closure was asked. Rare beside the others.
 #[cold]
 #[inline(never)]
-fn closed_type<H: Holdings>(
+fn judged_type<H: Holdings>(
     alloc: Global,
     holdings: &H,
     entity: Entity,

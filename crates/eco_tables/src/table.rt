@@ -297,7 +297,11 @@ impl Table {
     {
         let entity = source.entities.swap_remove(row);
         self.entities.push_reserved(entity);
-        move_row(self.columns.as_mut_slice(), source.columns.as_mut_slice(), row);
+        move_row(
+            self.columns.as_mut_slice(),
+            source.columns.as_mut_slice(),
+            row,
+        );
         self.room -= 1;
         source.room += 1;
         entity_at(source.entities.as_slice(), row)

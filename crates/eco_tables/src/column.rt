@@ -380,6 +380,7 @@ impl Column {
     }
 
     /// The values, to read in a row, in as many fields as are kept.
+    #[inline(always)]
     pub fn values(&self) -> Values<'_>
         ensures fields { fields_of result ≡ self.now.width }
         ensures values { whole_values result ≡ self.now.values }

@@ -151,6 +151,7 @@ impl Table {
 
     /// The values of an id, row by row, in as many fields as the id is wide. None where the id has no column: then its value is
     /// zeros in each row whose type has the id.
+    #[inline(always)]
     pub fn values(&self, id: Id) -> Option<Values<'_>>
         ensures shown { IfSome result (λ v. whole_values v ≡ map (λ r. value_in r.held id) self.now.rows) }
         ensures fields { IfSome result (λ v. width_in self.now id ≡ Some (fields_of v)) }

@@ -48,8 +48,16 @@ pub enum Calls {
 }
 
 impl Calls {
-    /// Whether they ask for results alone.
-    pub fn only_ask(self) -> bool {
+    /// Whether they read alone: results of a query, or values.
+    pub fn only_read(self) -> bool {
+        self.gives_results() || self.sums()
+    }
+
+    fn gives_results(self) -> bool {
         matches!(self, Calls::Results | Calls::ManyResults | Calls::Cached)
+    }
+
+    fn sums(self) -> bool {
+        matches!(self, Calls::SumSlice | Calls::SumColumns | Calls::SumTables)
     }
 }

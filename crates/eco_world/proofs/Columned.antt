@@ -1,16 +1,17 @@
 -- The columns of the tables that list an id are those of the world.
-use Rattle.eco_world.proofs.Common.{◌≡◌, ℕ, Bool, true, false, true≢false, nat_eq, nat_lt, List, [], ◌∷◌, map, filter, cond}
-use Rattle.eco_world.proofs.Common.{IfSome, Option, None, Some, option_map, unwrap_or, is_some, All, Contains, list_any, IsDistinct, IsPermutation}
-use Rattle.eco_world.proofs.Common.{IsPermutation-map, length-map, arith, refl, sym, ap, subst, ◌∙◌, Id, arity, IsLawful, ListedTable}
-use Rattle.eco_world.proofs.Common.{has_item, id_cmp, WorldState, entities, record_of, TableState, TableRow}
-use Rattle.eco_world.proofs.Common.{no_table, slot_of, table_in, shown_at}
+use Rattle.eco_world.proofs.Common.{◌≡◌, ℕ, Bool, true, false, true≢false, ◌&&◌, nat_eq, nat_lt, List, [], ◌∷◌, map, filter, cond, length}
+use Rattle.eco_world.proofs.Common.{IfSome, Option, None, Some, option_map, unwrap_or, is_some, All, AllByRecursion, Contains, list_any}
+use Rattle.eco_world.proofs.Common.{IsPermutation, IsPermutation-map, Decides-eqb, length-map, arith, refl, sym, ap, subst, ◌∙◌, Id, arity, IsLawful}
+use Rattle.eco_world.proofs.Common.{ListedTable, has_item, id_cmp, WorldState, entities, record_of, TableState, TableRow, no_table, slot_of, table_in}
+use Rattle.eco_world.proofs.Common.{shown_at}
+use Rattle.std.specs.List.{IsDistinct}
+use Rattle.std.proofs.lemmas.Map.Views.{any-filter_same}
 use Rattle.std.proofs.lemmas.Simd.{map-map}
-use Rattle.eco_archetypes.specs.Archetypes.{ArePassing, has_rows, passes_at, type_at, type_matches}
-use Rattle.eco_archetypes.proofs.Cached.{rowed_found}
-use Rattle.eco_archetypes.proofs.NewWidths.{has_exactly}
+use Rattle.eco_archetypes.specs.Archetypes.{ArePassing, IsAllFound, has_rows, is_found_by, passes_at, type_at, type_matches}
 use Rattle.eco_query.specs.Queries.{exactly}
 use Rattle.eco_store.specs.Lent.{AreTablesOf}
 use Rattle.eco_world.proofs.Data.{data_wide}
+use Rattle.eco_world.proofs.Holders.{has_exactly}
 use Rattle.eco_world.proofs.Layouts.{all_of, layout_beside, mapped_from}
 use Rattle.eco_world.proofs.Lending.{rows_show, stands_held}
 use Rattle.eco_world.proofs.Tabled.{all_covered, any_of, found_covered, found_differ, found_match, with_rows}
@@ -37,6 +38,26 @@ with_entities slots i =
     picked has_entities (has_rows slots) (column_at slots i)
     (λ n. ap (nat_lt 0) (length-map (table_in slots n).rows (λ (r : TableRow). r.entity)))
 
+-- numbers of which each stands once do so too where some are left out
+apart_left : (x : ℕ) (p : ℕ → Bool) (ns : List ℕ) → AllByRecursion (λ n. nat_eq x n ≡ false) ns
+    → AllByRecursion (λ n. nat_eq x n ≡ false) (filter p ns)
+apart_left x p [] apart = apart
+apart_left x p (n ∷ ns) apart = by (p n) (apart_left x p ns apart.1)
+  where
+    by : (b : Bool) → AllByRecursion (λ m. nat_eq x m ≡ false) (filter p ns)
+        → AllByRecursion (λ m. nat_eq x m ≡ false) (cond b (n ∷ filter p ns) (filter p ns))
+    by true rest = (apart.0, rest)
+    by false rest = rest
+
+distinct_left : (p : ℕ → Bool) (ns : List ℕ) → IsDistinct nat_eq ns → IsDistinct nat_eq (filter p ns)
+unfolding IsDistinct
+distinct_left p [] once = once
+distinct_left p (n ∷ ns) once = by (p n) (distinct_left p ns once.1)
+  where
+    by : (b : Bool) → IsDistinct nat_eq (filter p ns) → IsDistinct nat_eq (cond b (n ∷ filter p ns) (filter p ns))
+    by true rest = (apart_left n p ns once.0, rest)
+    by false rest = rest
+
 module _ (w : WorldState) (i : Id) (slots : List (Option TableState)) (are : AreTablesOf (entities w) slots) (ns : List ℕ)
     (listed : (n : ℕ) → list_any (nat_eq n) ns ≡ type_matches (type_at slots n) (exactly i)) where
   -- the slots are those of the tables whose type has the id
@@ -46,6 +67,23 @@ module _ (w : WorldState) (i : Id) (slots : List (Option TableState)) (are : Are
       by : (o : Option (List Id)) → type_matches o (exactly i) ≡ passes_at (has_id i) o
       by None = refl
       by (Some ids) = has_exactly ids i
+
+  -- those of them whose tables have rows are all that are found
+  rowed : (n : ℕ) → (has_rows slots n && passes_at (has_id i) (type_at slots n)) ≡ is_found_by (has_id i) (slot_of slots n)
+  rowed n = by (slot_of slots n)
+    where
+      by : (o : Option TableState)
+          → (nat_lt 0 (length (unwrap_or o no_table).rows) && passes_at (has_id i) (option_map (λ (t : TableState). t.ids) o)) ≡ is_found_by (has_id i) o
+      by None = refl
+      by (Some t) = refl
+
+  all_found : IsDistinct nat_eq ns → IsAllFound (has_id i) slots (filter (has_rows slots) ns)
+  all_found once = record {
+    listed = λ n.
+        any-filter_same (nat_eq n) (has_rows slots) (has_rows slots n) (λ k same. ap (has_rows slots) (sym ((Decides-eqb n k).0 same))) ns
+        ∙ ap (λ b. has_rows slots n && b) (passing n) ∙ rowed n;
+    distinct = distinct_left (has_rows slots) ns once;
+  }
 
   -- a table of one of them has a column
   pub keep_columns : IsLawful w → is_some (arity w i) ≡ true → All (KeepsColumn slots i) ns
@@ -73,7 +111,7 @@ module _ (w : WorldState) (i : Id) (slots : List (Option TableState)) (are : Are
   pub lists_columns : IsDistinct nat_eq ns → ListsColumns w i (map (column_at slots i) ns)
   lists_columns once =
       let found = filter (has_rows slots) ns in
-      let all = rowed_found (has_id i) slots ns passing once in
+      let all = all_found once in
       let tables = map (shown_at slots) found in
       let columns = map (column_at slots i) found in
       let beside = layout_beside w (has_id i) tables (with_rows slots)

@@ -1,6 +1,7 @@
 -- Who has an id, as a store finds them by the pattern of that id.
-use Rattle.eco_world.proofs.Common.{◌≡◌, true, false, cond, ◌||◌, List, [], ◌∷◌, map, filter, Some, refl, ap, ◌∙◌, is_some, list_any}
-use Rattle.eco_world.proofs.Common.{find, Entity, Id, Value, pattern_matches, id_cmp, id_eq, WorldState, Record, entities, exactly, has_match, holders}
+use Rattle.eco_world.proofs.Common.{◌≡◌, Bool, true, false, cond, ◌||◌, List, [], ◌∷◌, map, filter, Some, refl, ap, ◌∙◌, is_some, list_any, find}
+use Rattle.eco_world.proofs.Common.{Entity, Id, Value, pattern_matches, has_item, id_cmp, id_eq, id_eq_sym, WorldState, Record, entities, exactly}
+use Rattle.eco_world.proofs.Common.{has_match, holders}
 use Rattle.eco_ids.specs.Indices.{living}
 use Rattle.eco_ids.proofs.Pairs.{parts_are_same}
 use Rattle.eco_world.proofs.Held.{keys}
@@ -13,6 +14,10 @@ matches_exactly (id.One e) (id.One x) = refl
 matches_exactly (id.One e) (id.Two s u) = refl
 matches_exactly (id.Two r t) (id.One x) = refl
 matches_exactly (id.Two r t) (id.Two s u) = parts_are_same r t s u
+
+-- a type has the id where the pattern matches one of its ids
+pub has_exactly : (ids : List Id) (i : Id) → list_any (pattern_matches (exactly i)) ids ≡ has_item id_cmp ids i
+has_exactly ids i = ap (λ (t : Id → Bool). list_any t ids) (λ t j. (matches_exactly i j ∙ id_eq_sym i j) t)
 
 -- the pattern of the id matches where the id is held
 pub exactly_held : (i : Id) (held : List (Id × Value)) → list_any (pattern_matches (exactly i)) (keys held) ≡ is_some (find id_cmp i held)

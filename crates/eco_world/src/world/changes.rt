@@ -18,13 +18,13 @@ ghost use Rattle.eco_ids.specs.Step.{Adds, may_add, Clears, may_clear, Extends, 
 ghost use Rattle.eco_ids.specs.Step.{may_rename, Sets, may_set, changed, is_reserved, unchanged, with_value};
 ghost use Rattle.eco_ids.specs.World.{has, names_living, is_alive, record_of};
 ghost use Rattle.eco_world.specs.Actor.{IsUnfit, MaySet};
-ghost use Rattle.eco_world.specs.Losses.{takes_id};
+ghost use Rattle.eco_world.specs.Losses.{IsAlone, takes_id};
 ghost use Rattle.eco_places.specs.Records.{record_ids, with_exchanged, with_toggled, with_type};
 
 use crate::world::World;
 use eco_ids::entity::{ON_DELETE, PANIC};
 use eco_ids::{Entity, Id, Refusal, TypeList, Value};
-use eco_traits::{Prospect, Target, comes_alone, foresee, open_target};
+use eco_traits::{Prospect, closed_type, comes_alone, foresee, short_target};
 use std::alloc::{AllocError, Global};
 
 // Whether all these fields are 0.
@@ -289,16 +289,31 @@ impl World {
         eco_ids::laws::steps_keep_lawful();
         eco_ids::laws::add_leaves_exactly();
         self.is_lawful();
-        let target = open_target(self.alloc, self, entity, id)?;
         if let Some(mirror) = self.other_mirror(entity, id) {
-            return Ok(self.gain_both(entity, id, target, mirror)?);
+            return self.extend_both(entity, id, mirror);
         }
-        match target {
-            Target::Own => Ok(()),
-            Target::With => Ok(self.step(entity, id)?),
-            Target::Instead(old) => Ok(self.exchange(entity, old, id)?),
-            Target::Other(ids) => Ok(self.retype(entity, &ids)?),
+        match short_target(self, entity, id) {
+            Some(None) => Ok(self.step(entity, id)?),
+            Some(Some(old)) => Ok(self.exchange(entity, old, id)?),
+            None => self.extend_by_closure(entity, id),
         }
+    }
+
+    // What `extend` does where the short way doesn't tell, apart, so that an add which it tells needs no room for a list of ids.
+    #[inline(never)]
+    fn extend_by_closure(&mut self, entity: Entity, id: Id) -> Result<(), Refusal>
+        requires alive { is_alive self.old entity ≡ true }
+        requires free { is_reserved self.old entity id ≡ false }
+        requires living { names_living self.old id ≡ true }
+        requires absent { has self.old entity id ≡ false }
+        requires alone { IsAlone self.old entity id }
+        ensures { Meets (Adds self.old entity id) (may_add self.old entity id) self.old result self.new }
+    {
+        eco_ids::laws::steps_keep_lawful();
+        eco_ids::laws::add_leaves_exactly();
+        self.is_lawful();
+        let ids = closed_type(self.alloc, self, entity, id)?;
+        Ok(self.retype(entity, &ids)?)
     }
 
     // The entity loses an id that it has. An `Err` leaves everything.

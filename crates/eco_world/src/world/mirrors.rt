@@ -7,8 +7,9 @@ ghost use Rattle.eco_ids.specs.Lawful.{IsLawful};
 ghost use Rattle.eco_ids.specs.Losses.{nobody, without};
 ghost use Rattle.eco_ids.specs.Mirrors.{goes_too, mirror_of};
 ghost use Rattle.eco_ids.specs.Order.{entity_eq};
-ghost use Rattle.eco_ids.specs.Step.{changed, has_ids, is_held, is_reserved, with_mirror};
-ghost use Rattle.eco_ids.specs.World.{has, is_alive, is_symmetric};
+ghost use Rattle.eco_ids.specs.Outcome.{Meets};
+ghost use Rattle.eco_ids.specs.Step.{Adds, may_add, changed, has_ids, is_held, is_reserved, with_mirror};
+ghost use Rattle.eco_ids.specs.World.{has, is_alive, is_symmetric, names_living};
 ghost use Rattle.eco_places.specs.Records.{with_toggled, with_type};
 ghost use Rattle.eco_traits.specs.Target.{TakesOwn, type_meant};
 ghost use Rattle.eco_world.specs.declared.loss.Loss.TheVariants.{All, Everywhere};
@@ -19,10 +20,10 @@ ghost use Rattle.eco_world.specs.Types.{type_of};
 use crate::loss::Loss;
 use crate::world::World;
 use eco_ids::entity::SYMMETRIC;
-use eco_ids::{Entity, Id, TypeList};
+use eco_ids::{Entity, Id, Refusal, TypeList};
 use eco_query::exactly;
 use eco_store::Move;
-use eco_traits::Target;
+use eco_traits::{Target, open_target};
 use std::alloc::AllocError;
 
 impl World {
@@ -104,8 +105,32 @@ impl World {
         self.store.step_both((entity, id), mirror)
     }
 
+    // The entity has an id that it lacks from now on, with its closure, and another entity the mirror, unless something stands
+    // against that. An `Err` leaves everything.
+    #[inline(never)]
+    pub(crate) fn extend_both(
+        &mut self,
+        entity: Entity,
+        id: Id,
+        mirror: (Entity, Id),
+    ) -> Result<(), Refusal>
+        requires alive { is_alive self.old entity ≡ true }
+        requires free { is_reserved self.old entity id ≡ false }
+        requires living { names_living self.old id ≡ true }
+        requires absent { has self.old entity id ≡ false }
+        requires mirror { mirror_of self.old entity id ≡ Some mirror }
+        requires other { entity_eq mirror.0 entity ≡ false }
+        ensures { Meets (Adds self.old entity id) (may_add self.old entity id) self.old result self.new }
+    {
+        eco_ids::laws::steps_keep_lawful();
+        eco_ids::laws::add_leaves_exactly();
+        self.is_lawful();
+        let target = open_target(self.alloc, self, entity, id)?;
+        Ok(self.gain_both(entity, id, target, mirror)?)
+    }
+
     // The entity gets what an add leads to, and another entity the mirror. An `Err` leaves everything.
-    pub(crate) fn gain_both(
+    fn gain_both(
         &mut self,
         entity: Entity,
         id: Id,

@@ -248,8 +248,8 @@ impl CallCase {
         size: u32,
     ) -> Result<u64, Failure> {
         self.3.make(setting, size, self.2)?;
-        if self.4.only_read() {
-            self.read_before(setting, size)?;
+        if self.4.come_again() {
+            self.call_before(setting, size)?;
         }
         let start = Instant::now(clock)?;
         let is_right = setting.call(self.4, size)?;
@@ -262,8 +262,8 @@ impl CallCase {
     }
 
     // A query is asked again and again of a world: from the third answer on it needs no new pages of the system for its results.
-    // So values are read in each frame: where they were read before, they are as near as they can be.
-    fn read_before(&self, setting: &mut Setting, size: u32) -> Result<(), Failure> {
+    // Likewise values are read in each frame, where the frame before has read them.
+    fn call_before(&self, setting: &mut Setting, size: u32) -> Result<(), Failure> {
         for _ in 0..2 {
             let _is_right = setting.call(self.4, size)?;
             setting.forget();

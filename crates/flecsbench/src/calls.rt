@@ -48,8 +48,8 @@ pub enum Calls {
 }
 
 impl Calls {
-    /// Whether they read alone: results of a query, or values.
-    pub fn only_read(self) -> bool {
+    /// Whether they are made twice before they are measured: answers that give handles, and sums of values.
+    pub fn come_again(self) -> bool {
         self.gives_results() || self.sums()
     }
 

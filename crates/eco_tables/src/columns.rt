@@ -299,7 +299,7 @@ fn move_alike(columns: &mut [Column], source: &mut [Column], row: usize) -> usiz
     place
 }
 
-// The same as `move_row`, where the columns differ.
+// The same as `move_row`, for what `move_alike` leaves.
 #[inline(always)]
 fn move_rest(columns: &mut [Column], source: &mut [Column], row: usize)
     requires room { All (λ c. 0 < c.room) columns.old }

@@ -1,7 +1,7 @@
 use Rattle.eco_tables.proofs.Common.{◌+◌, ◌≤◌, arith, vec_len, is_ok}
 use Rattle.std.proofs.Common.{vec_capacity}
 use Rattle.eco_tables.proofs.Packing.{zeros_joined}
-use Rattle.eco_tables.proofs.column.join_zeros.Goals as goal
+use Rattle.eco_tables.proofs.column.fields.join_zeros.Goals as goal
 
 pub returns-clause-values : goal.returns-clause-values
 returns-clause-values g c =

@@ -101,9 +101,9 @@ pub fn open_target<H: Holdings>(
     Ok(Target::Instead(old))
 }
 
-/// What [`open_target`] answers where a look at the entities of a pair tells: the id whose place the pair takes
-/// ([`Target::Instead`]), or none ([`Target::With`]). A pair of an exclusive relationship mostly takes the place of one
-/// other pair, and nothing else has to be known for that.
+/// What [`open_target`] answers where the holder's own type and those of a pair's entities tell it at a look: the id whose
+/// place the pair takes ([`Target::Instead`]), or none ([`Target::With`]). A pair of an exclusive relationship mostly takes the
+/// place of one other pair, and nothing else has to be known for that.
 ///
 /// No answer where it takes more than such a look, as for each single id; [`closed_type`] tells it then.
 #[inline(always)]
@@ -172,7 +172,7 @@ fn single_type<H: Holdings>(
 }
 
 // The pair that a new pair replaces, or none, where that is all that the new one does, and nothing stands against it. No
-// answer where that takes more than a look at the pair's entities: the pair brings others along, replaces several, names
+// answer where that takes more than a look at these types: the pair brings others along, replaces several, names
 // no action, ties a symmetric relationship to another, or may close a cycle.
 #[inline(always)]
 fn short_way<H: Holdings>(
@@ -274,7 +274,8 @@ fn has_other_pair_of(ids: &[Id], relationship: Entity, first: Id) -> bool
         .any(|id| is_pair_of(*id, relationship) && !id.is(first))
 }
 
-// The type that an absent id leads to, once all that stands against its closure was asked. Rare beside the others.
+// The type that an absent id leads to, once all that stands against its closure was asked. Mostly a pair goes the
+// short way and a single id comes freely, so this stands apart from both.
 #[cold]
 #[inline(never)]
 fn judged_type<H: Holdings>(

@@ -105,8 +105,8 @@ impl World {
         self.store.step_both((entity, id), mirror)
     }
 
-    // The entity has an id that it lacks from now on, with its closure, and another entity the mirror, unless something stands
-    // against that. An `Err` leaves everything.
+    // The entity gets an id that it lacks, with its closure, and another entity gets the mirror, unless something stands against
+    // that. An `Err` leaves everything.
     #[inline(never)]
     pub(crate) fn extend_both(
         &mut self,

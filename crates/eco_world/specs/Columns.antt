@@ -1,5 +1,5 @@
 -- The columns of one id.
-use Rattle.std.specs.Prelude.{◌≡◌, ◌<◌, ℕ, All, Bool, filter, IsTrue, length, List, map, nat_lt, Option, Some}
+use Rattle.std.specs.Prelude.{◌≡◌, ◌<◌, ℕ, All, Bool, filter, IfNone, IsTrue, length, List, map, nat_lt, None, Option, Some, [], ◌∷◌}
 use Rattle.std.specs.List.Sorted.{IsPermutation}
 use Rattle.eco_ids.specs.declared.entity.Entity.{Entity}
 use Rattle.eco_ids.specs.declared.id.Id.{Id}
@@ -23,16 +23,33 @@ pub record ListedColumn : Type 0 where
 abbrev pub lent_column : Column → ListedColumn
 lent_column c = record { entities = c.entities.now; values = whole_values c.values }
 
--- the column of the id in a table of the store
-abbrev pub column_at : List (Option TableState) → Id → ℕ → ListedColumn
-column_at slots i n = record { entities = entities_of (table_in slots n).rows; values = column_in (table_in slots n) i }
+-- the column of the id in a table
+abbrev pub column_of : TableState → Id → ListedColumn
+column_of t i = record { entities = entities_of t.rows; values = column_in t i }
 
--- the table in a slot keeps fields of the id
-pub record KeepsColumn (slots : List (Option TableState)) (i : Id) (n : ℕ) : Type 0 where
+-- the table keeps fields of the id
+pub record KeepsFields (t : TableState) (i : Id) : Type 0 where
   -- its type has the id
-  pub has : IsTrue (has_item id_cmp (table_in slots n).ids i)
+  pub has : IsTrue (has_item id_cmp t.ids i)
   -- and of an id that has a width it keeps one field at least
-  pub wide : (k : ℕ) → width_in (table_in slots n) i ≡ Some k → 0 < k
+  pub wide : (k : ℕ) → width_in t i ≡ Some k → 0 < k
+
+-- the same of the table in a slot of the store
+abbrev pub column_at : List (Option TableState) → Id → ℕ → ListedColumn
+column_at slots i n = column_of (table_in slots n) i
+
+abbrev pub KeepsColumn : List (Option TableState) → Id → ℕ → Type 0
+KeepsColumn slots i n = KeepsFields (table_in slots n) i
+
+-- the columns that are left: that which was found ahead, if there is one, and those behind it
+abbrev pub with_ahead : Option Column → List ListedColumn → List ListedColumn
+with_ahead None columns = columns
+with_ahead (Some c) columns = lent_column c ∷ columns
+
+-- the slots behind the column that was found ahead: none, where none was
+pub record AreLeft (slots : List (Option TableState)) (i : Id) (ahead : Option Column) (ns : List ℕ) : Type 0 where
+  pub keep : All (KeepsColumn slots i) ns
+  pub none : IfNone ahead (ns ≡ [])
 
 -- somebody stands in its rows
 abbrev pub has_entities : ListedColumn → Bool

@@ -2,10 +2,11 @@
 ghost use Rattle.std.specs.Prelude.{◌≡◌, All, length, map};
 ghost use Rattle.std.specs.Iterator.{at_most};
 ghost use Rattle.std.specs.Map.Iter.{TakesFirst};
-ghost use Rattle.eco_world.specs.Columns.{column_at, KeepsColumn, lent_column};
+ghost use Rattle.std.specs.Slice.Iter.{iter_rest};
+ghost use Rattle.eco_world.specs.Columns.{AreLeft, column_at, column_of, KeepsFields, KeepsColumn, lent_column, with_ahead};
 
 use eco_ids::{Entity, Id, TableSlot};
-use eco_store::Tables;
+use eco_store::{Table, Tables};
 use eco_tables::Values;
 use std::marker::Model;
 use std::slice;
@@ -21,23 +22,26 @@ pub struct Column<'a> {
 }
 
 /// The columns of one id that are left. A contract sees the list of them.
+///
+/// One is found ahead: so the way to its values is gone while whoever asks still reads those of the one before it.
 #[derive(Drop)]
 pub struct Columns<'a> {
     id: Id,
+    ahead: Option<Column<'a>>,
     slots: slice::Iter<'a, TableSlot>,
     tables: &'a Tables,
 }
 
 impl<'a> Model for Columns<'a> {
-    ghost use Rattle.std.specs.Prelude.{All, List, map};
+    ghost use Rattle.std.specs.Prelude.{List, map};
     ghost use Rattle.std.specs.Slice.Iter.{iter_rest};
-    ghost use Rattle.eco_world.specs.Columns.{column_at, KeepsColumn, ListedColumn};
+    ghost use Rattle.eco_world.specs.Columns.{AreLeft, column_at, ListedColumn, with_ahead};
 
     ghost Value = { List ListedColumn };
 
-    ghost view = { λ c. map (column_at c.tables.now c.id) (iter_rest c.slots) };
+    ghost view = { λ c. with_ahead c.ahead (map (column_at c.tables.now c.id) (iter_rest c.slots)) };
 
-    ghost invariant = { λ c. All (KeepsColumn c.tables.now c.id) (iter_rest c.slots) };
+    ghost invariant = { λ c. AreLeft c.tables.now c.id c.ahead (iter_rest c.slots) };
 }
 
 impl<'a> Columns<'a> {
@@ -46,9 +50,12 @@ impl<'a> Columns<'a> {
         requires { All (KeepsColumn tables.now id) slots.now }
         ensures { result ≡ map (column_at tables.now id) slots.now }
     {
+        let mut slots = slots.iter();
+        let ahead = next_column(id, &mut slots, tables);
         Columns {
             id,
-            slots: slots.iter(),
+            ahead,
+            slots,
             tables,
         }
     }
@@ -63,13 +70,38 @@ impl<'a> Iterator for Columns<'a> {
 
     #[inline(always)]
     fn next(&mut self) -> Option<Column<'a>> {
-        let slot = *self.slots.next()?;
-        let table = self.tables.get(slot).unwrap();
-        // So it has a width for this id, of one field at least, and lends its values.
-        table.ids_have_widths();
-        Some(Column {
-            entities: table.rows(),
-            values: table.values(self.id).unwrap(),
-        })
+        let column = self.ahead?;
+        self.ahead = next_column(self.id, &mut self.slots, self.tables);
+        Some(column)
+    }
+}
+
+// The column of the first of these slots, which is gone from them then.
+#[inline(always)]
+fn next_column<'a>(
+    id: Id,
+    slots: &mut slice::Iter<'a, TableSlot>,
+    tables: &'a Tables,
+) -> Option<Column<'a>>
+    requires { All (KeepsColumn tables.now id) (iter_rest slots.old) }
+    ensures taken { with_ahead result (map (column_at tables.now id) (iter_rest slots.new))
+        ≡ map (column_at tables.now id) (iter_rest slots.old) }
+    ensures kept { AreLeft tables.now id result (iter_rest slots.new) }
+{
+    let slot = slots.next()?;
+    Some(lend_column(id, tables.table(*slot)))
+}
+
+// The column of a table that keeps fields of the id.
+#[inline(always)]
+fn lend_column(id: Id, table: &Table) -> Column<'_>
+    requires { KeepsFields table.now id }
+    ensures { lent_column result ≡ column_of table.now id }
+{
+    // So it has a width for this id, of one field at least, and lends its values.
+    table.ids_have_widths();
+    Column {
+        entities: table.rows(),
+        values: table.values(id).unwrap(),
     }
 }

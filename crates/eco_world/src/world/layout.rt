@@ -67,7 +67,8 @@ impl World {
     /// values of the id, all of it to be read in one loop. Columns come in any order, and so do the entities of each. A table
     /// that lost its last entity is kept for a while, and its column has no rows then. An id that is no data has no columns.
     ///
-    /// It takes no memory. Each column is found when it is asked for, in a time that does not grow with its rows.
+    /// It takes no memory. Each column is found in a time that does not grow with its rows, one ahead of the column that is
+    /// asked for.
     pub fn columns(&self, id: Id) -> Columns<'_>
         ensures data { IfSome (arity self.now id) (λ fields. ListsColumns self.now id result) }
         ensures none { IfNone (arity self.now id) (result ≡ []) }

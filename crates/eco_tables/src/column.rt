@@ -21,24 +21,6 @@ pub enum Cells {
     Wide(Wide),
 }
 
-/// Up to three fields of each.
-#[derive(Drop)]
-pub enum Narrow {
-    One(Vec<[i64; 1]>),
-    Two(Vec<[i64; 2]>),
-    Three(Vec<[i64; 3]>),
-}
-
-/// Four fields of each and more.
-#[derive(Drop)]
-pub enum Wide {
-    Four(Vec<[i64; 4]>),
-    Five(Vec<[i64; 5]>),
-    Six(Vec<[i64; 6]>),
-    Seven(Vec<[i64; 7]>),
-    Eight(Vec<[i64; 8]>),
-}
-
 // Does the same with the fields, however many are kept of each value.
 macro_rules! at_each_width {
     ($fields:expr, |$rows:ident| $done:expr) => {
@@ -59,35 +41,26 @@ macro_rules! at_each_width {
     };
 }
 
-// Does the same with the fields of two columns, as many of each value.
+// Does the same with the fields of two columns that keep as many of each value: narrow and wide ones are told apart here, and how
+// many they are there, since all eight widths of two columns at once are dear to prove.
 macro_rules! at_equal_widths {
     ($fields:expr, $others:expr, |$rows:ident, $source:ident| $done:expr) => {
         match ($fields, $others) {
-            (Cells::Narrow(fields), Cells::Narrow(others)) => match (fields, others) {
-                (Narrow::One($rows), Narrow::One($source)) => $done,
-                (Narrow::Two($rows), Narrow::Two($source)) => $done,
-                (Narrow::Three($rows), Narrow::Three($source)) => $done,
-                _ => unreachable!(),
-            },
-            (Cells::Wide(fields), Cells::Wide(others)) => match (fields, others) {
-                (Wide::Four($rows), Wide::Four($source)) => $done,
-                (Wide::Five($rows), Wide::Five($source)) => $done,
-                (Wide::Six($rows), Wide::Six($source)) => $done,
-                (Wide::Seven($rows), Wide::Seven($source)) => $done,
-                (Wide::Eight($rows), Wide::Eight($source)) => $done,
-                _ => unreachable!(),
-            },
+            (Cells::Narrow($rows), Cells::Narrow($source)) => $done,
+            (Cells::Wide($rows), Cells::Wide($source)) => $done,
             _ => unreachable!(),
         }
     };
 }
 
 mod fields;
+mod narrow;
 mod runs;
+mod wide;
 
-use fields::{
-    copied, join, join_zeros, move_one, push, push_zeros, put, read, read_told, shrink, take_out,
-};
+use fields::{copied, join_zeros, push_zeros, put, read, read_told, shrink, take_out};
+use narrow::Narrow;
+use wide::Wide;
 
 /// A contract sees the id, how many fields are kept (`width`), the whole values, and how many more fit with no allocation
 /// (`room`).
@@ -288,7 +261,7 @@ impl Column {
         at_equal_widths!(
             &mut self.fields,
             &source.fields,
-            |rows, others| push(rows, others, row)
+            |fields, others| fields.push_from(others, row)
         )
     }
 
@@ -305,7 +278,7 @@ impl Column {
         at_equal_widths!(
             &mut self.fields,
             &mut source.fields,
-            |rows, others| move_one(rows, others, row)
+            |fields, others| fields.take_from(others, row)
         )
     }
 
@@ -329,7 +302,7 @@ impl Column {
         at_equal_widths!(
             &mut self.fields,
             &source.fields,
-            |rows, others| join(rows, others)
+            |fields, others| fields.join(others)
         )
     }
 

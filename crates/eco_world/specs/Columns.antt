@@ -46,9 +46,11 @@ abbrev pub with_ahead : Option Column → List ListedColumn → List ListedColum
 with_ahead None columns = columns
 with_ahead (Some c) columns = lent_column c ∷ columns
 
--- the slots behind the column that was found ahead: none, where none was
+-- the slots behind the column that was found ahead
 pub record AreLeft (slots : List (Option TableState)) (i : Id) (ahead : Option Column) (ns : List ℕ) : Type 0 where
+  -- the table in each keeps fields of the id
   pub keep : All (KeepsColumn slots i) ns
+  -- and there are none where none was found
   pub none : IfNone ahead (ns ≡ [])
 
 -- somebody stands in its rows

@@ -23,7 +23,7 @@ pub struct Column<'a> {
 
 /// The columns of one id that are left. A contract sees the list of them.
 ///
-/// One is found ahead: so the way to its values is gone while whoever asks still reads those of the one before it.
+/// One is found ahead: so the way to its values is walked while whoever asks still reads those of the one before it.
 #[derive(Drop)]
 pub struct Columns<'a> {
     id: Id,

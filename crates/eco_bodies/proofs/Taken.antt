@@ -1,7 +1,7 @@
 -- What some things take and record in order, when one more of them has recorded.
 use Rattle.eco_bodies.proofs.Common.{◌≡◌, ℕ, ◌+◌, ◌≤◌, List, [], ◌∷◌, ◌++◌, length, take, drop, refl, sym, ap}
-use Rattle.eco_bodies.proofs.Common.{◌<◌, Bool}
-use Rattle.eco_bodies.proofs.Common.{◌∙◌, append_assoc, length-append, subst, arith, get_or, get_or_from_slice_get, slice_get_within, Entity}
+use Rattle.eco_bodies.proofs.Common.{Bool}
+use Rattle.eco_bodies.proofs.Common.{◌∙◌, append_assoc, length-append, subst, arith, get_or_from_slice_get, slice_get_within, Entity}
 use Rattle.std.proofs.lemmas.List.{append-nil, drop-drop, drop_at, take_more, drop_more, take-append-drop}
 use Rattle.eco_ids.specs.Run.{Command}
 use Rattle.eco_stages.specs.Taking.{Broke}
@@ -120,11 +120,3 @@ module _ {X : Type 0} (commands : X → List Entity → List Command) (taken : X
   -- none took nothing
   pub took_none : (before : List Entity) (stage : List Command) → AllTook commands taken [] before before stage stage
   took_none before stage = ([], sym (append-nil before), λ later. (refl, sym (append-nil stage)))
-
-  -- where the only one stopped, all of them did
-  pub broke_alone : (xs : List X) (x : X) (before after : List Entity) (dry : Bool) → 1 ≤ length xs → length xs < 2
-      → Broke (taken (get_or xs 0 x)) before after dry → Broke (taken_of taken xs) before after dry
-  broke_alone [] x before after dry some few b = absurd (omega (arith, some))
-  broke_alone (y ∷ []) x before after dry some few b =
-      broke_more (y ∷ []) 0 y before before after [] [] dry refl (took_none before []) b
-  broke_alone (y ∷ z ∷ xs) x before after dry some few b = absurd (omega (arith, few))

@@ -61,8 +61,8 @@ fn set_id(
     put_command(stage, Command::Set(entity, id, value))
 }
 
-// Records that an entry is set to a value, where it is there and matches one of the patterns.
-#[inline(always)]
+// Records that an entry is set to a value, where it is there and matches one of the patterns. Apart, as `add_up_apart` is.
+#[inline(never)]
 fn set_entry(
     writes: &[Pattern],
     entity: Entity,
@@ -107,6 +107,23 @@ pub(crate) fn add_up<R: BodyRow>(
     row.set_sum(into, from, id, stage)
 }
 
+// The same, apart: what a stage does with a command that has a value is long, and written out in loops over rows once more for
+// each width of a sum it took the greater part of what a program takes to be translated.
+#[inline(never)]
+fn add_up_apart<R: BodyRow>(
+    writes: &[Pattern],
+    row: &R,
+    into: usize,
+    from: usize,
+    stage: &mut Stage,
+) -> Result<(), AllocError>
+    ensures ok { OnOk result (stage.new ≡ stage.old ++ option_to_list (set_of writes.now
+        (R.row_of row.now).entity (item_at (R.row_of row.now).entries into)
+        (sum_at (R.row_of row.now) into from))) }
+{
+    add_up(writes, row, into, from, stage)
+}
+
 // Records the same for rows that share their entries, of which it asks once.
 #[inline(always)]
 pub(crate) fn add_up_all<R: BodyRows>(
@@ -149,7 +166,7 @@ fn record_change<R: BodyRow>(
         Action::Put { slot, value } => {
             set_entry(writes, row.entity(), entry_at(row, slot), value, stage)
         }
-        Action::Sum { into, from } => add_up(writes, row, into, from, stage),
+        Action::Sum { into, from } => add_up_apart(writes, row, into, from, stage),
         Action::Kill => put_command(stage, Command::Delete(row.entity())),
         Action::Spawn(_) => Ok(()),
     }

@@ -66,7 +66,9 @@ fn record_in_turn<R: BodyRow, D: Draws>(
     Ok(())
 }
 
-// Records the actions for a row, in their order. Most scripts have one, for which a loop would only take time.
+// Records the actions for a row, in their order. Many scripts are one sum, which asks less where it is known to be one. Any other
+// action is recorded by the loop alone: written out once more for a script of one, it would double a large function, whose
+// translation takes time by the square of its size.
 #[inline(always)]
 fn record_actions<R: BodyRow, D: Draws>(
     writes: &[Pattern],
@@ -89,7 +91,6 @@ fn record_actions<R: BodyRow, D: Draws>(
             add_up(writes, row, *into, *from, stage)?;
             Ok(())
         }
-        [only] => record_action(writes, only, row, draws, stage),
         _ => record_in_turn(writes, actions, row, draws, stage),
     }
 }
@@ -113,7 +114,7 @@ fn record_each<R: BodyRows, D: Draws>(
         (D.so_far draws.old) (D.so_far draws.new) (D.is_dry draws.new)) }
 {
     for place in 0..rows.len() {
-        record_actions(writes, actions, &rows.row(place), draws, stage)?;
+        record_in_turn(writes, actions, &rows.row(place), draws, stage)?;
     }
     Ok(())
 }

@@ -4,11 +4,12 @@ use Rattle.eco_answers.proofs.Common.{get_or, Option, Some, refl, sym, ap, ◌�
 use Rattle.eco_answers.proofs.Common.{IsDistinct, list_any, IsPermutation, IsSorted, IsSortedByKey, IsTotalOrder, IsAntisymmetric, get_or-map, length-map}
 use Rattle.eco_answers.proofs.Common.{map-append, All-from_recursion, All-permutation, IsPermutation-map, Record, Entity, Id, Indexed, entity_cmp}
 use Rattle.eco_answers.proofs.Common.{AscendingAreSets, TableRow, TableState, entities_of, slot_of, table_in, is_found_by, standing_in, entities_whose}
-use Rattle.eco_answers.proofs.Common.{in_first}
+use Rattle.eco_answers.proofs.Common.{in_first, IsPermutation-refl}
 use Rattle.eco_answers.proofs.Common.{AreRanked, standings, StandsIn, IsShown, record_ids, Standing}
 use Rattle.std.proofs.Common.{drop-cons, take, ◌≤◌}
 use Rattle.std.proofs.Math.Seq.{take-add}
 use Rattle.std.proofs.lemmas.List.{length-take-le}
+use Rattle.std.proofs.lemmas.Option.{slice_get-get_or, slice_get-map}
 use Rattle.std.specs.Prelude.{slice_index_or}
 use Rattle.eco_places.proofs.Holders.{found_matches, row_kept, standing_apart, standing_whose, whose_ascend}
 use Rattle.eco_places.proofs.Sorting.{sorted_is}
@@ -46,6 +47,21 @@ first_sorted es up = λ k s low within.
     ap (λ (a : Standing). is_lt (entity_cmp a.entity (get_or (map in_first es) k s).entity)) (get_or-map in_first es (k + 1) e s inside)
     ∙ ap (λ (b : Standing). is_lt (entity_cmp (get_or es (k + 1) e) b.entity)) (get_or-map in_first es k e s (omega (arith, inside)))
     ∙ up k e low inside
+
+-- entities that ascend as they stand are ranked so
+pub in_order_ranked : (es list : List Entity) → list ≡ es → IsSorted entity_cmp es → AreRanked (map in_first es) (map in_first list)
+in_order_ranked es list same up = rw same (record { all = IsPermutation-refl (map in_first es); sorted = first_sorted es up })
+
+-- all who stand in the first table share it
+pub share_first : (ss : List Standing) (es : List Entity) (one other : ℕ) → ss ≡ map in_first es → one < length ss → other < length ss
+    → option_map (λ (s : Standing). s.place) (slice_get ss one) ≡ option_map (λ (s : Standing). s.place) (slice_get ss other)
+share_first ss es one other same a b = in_first_place one a ∙ sym (in_first_place other b) where
+  in_first_place : (k : ℕ) → k < length ss → option_map (λ (s : Standing). s.place) (slice_get ss k) ≡ Some 0
+  in_first_place k within =
+      let nobody : Entity = record { index = 0; generation = 0 } in
+      let inside : k < length es = rw (ap length same ∙ length-map es in_first) at within in
+      ap (λ z. option_map (λ (s : Standing). s.place) (slice_get z k)) same
+      ∙ ap (option_map (λ (s : Standing). s.place)) (slice_get-map in_first es k ∙ ap (option_map in_first) (slice_get-get_or es k nobody inside))
 
 -- one more slot is done
 pub standings_step : (i : ℕ) (tables : List (Option TableState)) (ns : List ℕ) (items more all : List Standing) (es : List Entity) → i < length ns

@@ -1,5 +1,5 @@
 //! Entities with the places of their tables: all of one table, or of several.
-ghost use Rattle.std.specs.Prelude.{◌≡◌, ◌==◌, ◌<◌, ◌∷◌, [], length, map, slice_get, Some};
+ghost use Rattle.std.specs.Prelude.{◌≡◌, ◌==◌, ◌<◌, ◌∷◌, [], length, map, option_map, slice_get, IsTrue, Some};
 ghost use Rattle.std.specs.Iterator.{at_most};
 ghost use Rattle.std.specs.Map.Iter.{TakesFirst};
 ghost use Rattle.eco_answers.specs.Ranking.{in_first};
@@ -107,6 +107,20 @@ impl Ranked {
             Ranks::Alone(entities) => in_first(entities[place]),
             Ranks::Only(entity) => in_first(*entity),
             Ranks::Among(standings) => standings[place],
+        }
+    }
+
+    /// Whether two of them stand in one table. Where all stand in the first, nothing is looked up.
+    #[inline]
+    pub fn share_table(&self, one: usize, other: usize) -> bool
+        requires one { one < length self.now }
+        requires other { other < length self.now }
+        ensures { IsTrue result → option_map (λ s. s.place) (slice_get self.now one)
+            ≡ option_map (λ s. s.place) (slice_get self.now other) }
+    {
+        match &self.list {
+            Ranks::Alone(_) => true,
+            _ => self.get(one).place == self.get(other).place,
         }
     }
 

@@ -109,7 +109,7 @@ impl Results {
         ensures { IsTrue result → option_map (λ r. r.entries) (slice_get self.now one)
             ≡ option_map (λ r. r.entries) (slice_get self.now other) }
     {
-        self.rows.get(one).place == self.rows.get(other).place
+        self.rows.share_table(one, other)
     }
 
     /// All of them, in their order.

@@ -11,7 +11,7 @@ ghost use Rattle.eco_answers.specs.Ranking.{StandsIn};
 ghost use Rattle.eco_answers.specs.declared.standing.Standing.{Standing as Stands};
 
 use crate::ranked::Ranked;
-use crate::standing::{Standings, ranked, row_count};
+use crate::standing::{Standings, in_order, ranked, row_count};
 use crate::walking::walked;
 use eco_archetypes::TypeTest;
 use eco_entities::EntityIndex;
@@ -38,8 +38,8 @@ fn count_among(tables: &Tables, slots: &[TableSlot], indices: usize) -> usize
     }
 }
 
-// All who stand in the tables of these slots, ascending: by a walk over the indices where they are many of those who live,
-// and else by sorting them. An `Err` comes where memory is refused, and never where there are no slots.
+// All who stand in the tables of these slots, ascending: as they stand, where it is one table whose rows ascend; else by a walk
+// over the indices where they are many of those who live, and by sorting them where they are few. An `Err` comes where memory is refused, and never where there are no slots.
 fn standing_in(
     alloc: Global,
     entities: &EntityIndex,
@@ -58,10 +58,12 @@ fn standing_in(
     eco_ids::order::handles_are_ordered();
     eco_ids::order::ascending_lists_are_sets();
     tables.rows_have_ids();
+    if let Some(list) = in_order(alloc, tables, slots)? {
+        return Ok(list);
+    }
     let indices = entities.high() as usize;
     let count = count_among(tables, slots, indices);
-    // The rows of one table mostly ascend as they stand.
-    if slots.len() > 1 && indices / INDICES_PER_ENTITY <= count {
+    if 0 < count && indices / INDICES_PER_ENTITY <= count {
         let list = walked(alloc, entities, tables.slot_count(), slots, count)?;
         Ok(Ranked::among(list))
     } else {

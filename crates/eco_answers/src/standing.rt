@@ -1,5 +1,5 @@
 //! Who stands in the tables of some slots.
-ghost use Rattle.std.specs.Prelude.{◌≡◌, ◌+◌, ◌-◌, ◌<◌, ◌≤◌, ◌++◌, length, map, IfOk, IsTrue, OnOk, OnErr};
+ghost use Rattle.std.specs.Prelude.{◌≡◌, ◌+◌, ◌-◌, ◌<◌, ◌≤◌, ◌++◌, length, map, IfOk, IfSome, IsSome, IsTrue, OnOk, OnErr};
 ghost use Rattle.std.specs.List.Sorted.{IsSorted, IsSortedByKey};
 ghost use Rattle.eco_ids.specs.Order.{entity_cmp};
 ghost use Rattle.eco_tables.specs.Table.{entities_of};
@@ -35,8 +35,63 @@ pub struct Standings<'a> {
     pub list: Ranked,
 }
 
-/// All who stand in the tables of these slots, ascending. An `Err` comes where memory is refused, and never where there are
-/// no slots.
+/// All who stand in one table whose rows ascend as they stand, as rows mostly do that were made one after another: then they are
+/// copied, and nothing else is to do. None where there are several tables, and where some row is below the one before it; it
+/// looks no further than there. An `Err` comes where memory is refused, and never where there are no slots.
+pub(crate) fn in_order(
+    alloc: Global,
+    tables: &Tables,
+    slots: &[TableSlot],
+) -> Result<Option<Ranked>, AllocError>
+    ensures ranked { IfOk result (λ o. IfSome o (λ v. AreRanked (standings 0 tables.now slots.now) v)) }
+    ensures some { OnErr result (0 < length slots.now) }
+{
+    match slots {
+        [slot] => alone(alloc, entities_at(tables, *slot)),
+        _ => Ok(None),
+    }
+}
+
+// All who stand in one table, where they ascend as they stand. One who stands there alone takes no memory.
+fn alone(alloc: Global, entities: &[Entity]) -> Result<Option<Ranked>, AllocError>
+    ensures { IfOk result (λ o. IfSome o (λ v. AreRanked (map in_first entities.now) v)) }
+{
+    match entities {
+        [only] => Ok(Some(Ranked::only(*only))),
+        _ => together(alloc, entities),
+    }
+}
+
+// The same of any number.
+fn together(alloc: Global, entities: &[Entity]) -> Result<Option<Ranked>, AllocError>
+    ensures { IfOk result (λ o. IfSome o (λ v. AreRanked (map in_first entities.now) v)) }
+{
+    match copied(alloc, entities)? {
+        Some(list) => Ok(Some(Ranked::alone(list))),
+        None => Ok(None),
+    }
+}
+
+// The same entities once more, where they ascend as they stand. Each chunk is looked at and copied while the nearest cache
+// holds it, so that many are fetched from memory once.
+fn copied(alloc: Global, entities: &[Entity]) -> Result<Option<Vec<Entity>>, AllocError>
+    ensures same { IfOk result (λ o. IfSome o (λ list. list.items ≡ entities.now)) }
+    ensures ascending { IfOk result (λ o. IsSome o → IsSorted entity_cmp entities.now) }
+{
+    let mut list = Vec::with_capacity(alloc, entities.len())?;
+    while list.len() < entities.len() {
+        let from = list.len();
+        let to = from + CHUNK.min(entities.len() - from);
+        if !ascend_on(entities, from, to) {
+            return Ok(None);
+        }
+        list.extend_from_slice(&entities[from..to])?;
+    }
+    Ok(Some(list))
+}
+
+/// All who stand in the tables of these slots, ascending: they are sorted. An `Err` comes where memory is refused, and never where
+/// there are no slots.
 pub(crate) fn ranked(
     alloc: Global,
     tables: &Tables,
@@ -46,47 +101,18 @@ pub(crate) fn ranked(
     ensures some { OnErr result (0 < length slots.now) }
 {
     match slots {
-        [slot] => alone(alloc, entities_at(tables, *slot)),
+        [slot] => sorted(alloc, entities_at(tables, *slot)),
         _ => among(alloc, tables, slots),
     }
 }
 
-// All who stand in one table, ascending. One who stands there alone takes no memory.
-fn alone(alloc: Global, entities: &[Entity]) -> Result<Ranked, AllocError>
+// All who stand in one table, sorted.
+fn sorted(alloc: Global, entities: &[Entity]) -> Result<Ranked, AllocError>
     ensures { IfOk result (λ v. AreRanked (map in_first entities.now) v) }
 {
-    match entities {
-        [only] => Ok(Ranked::only(*only)),
-        _ => together(alloc, entities),
-    }
-}
-
-// The same of any number. Rows that were made one after another mostly ascend as they stand, and nothing is to do.
-fn together(alloc: Global, entities: &[Entity]) -> Result<Ranked, AllocError>
-    ensures { IfOk result (λ v. AreRanked (map in_first entities.now) v) }
-{
-    let (mut list, ascends) = copied(alloc, entities)?;
-    if !ascends {
-        list.sort_unstable();
-    }
+    let mut list = Vec::from_slice(alloc, entities)?;
+    list.sort_unstable();
     Ok(Ranked::alone(list))
-}
-
-// The same entities once more, and whether they ascend as they stand. Each chunk is looked at and copied while the nearest cache
-// holds it, so that many are fetched from memory once.
-fn copied(alloc: Global, entities: &[Entity]) -> Result<(Vec<Entity>, bool), AllocError>
-    ensures same { IfOk result (λ r. r.0.items ≡ entities.now) }
-    ensures ascending { IfOk result (λ r. IsTrue r.1 → IsSorted entity_cmp entities.now) }
-{
-    let mut list = Vec::with_capacity(alloc, entities.len())?;
-    let mut ascends = true;
-    while list.len() < entities.len() {
-        let from = list.len();
-        let to = from + CHUNK.min(entities.len() - from);
-        ascends = ascends && ascend_on(entities, from, to);
-        list.extend_from_slice(&entities[from..to])?;
-    }
-    Ok((list, ascends))
 }
 
 // Whether the entities from one place on up to another ascend as they stand, and go on from the one before them. Most are taken in

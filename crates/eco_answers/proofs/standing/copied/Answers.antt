@@ -1,7 +1,6 @@
 use Rattle.eco_answers.proofs.Common.{◌≡◌, ◌+◌, ◌≤◌, ◌++◌, length, drop, rules}
 use Rattle.std.specs.Prelude.{take}
 use Rattle.eco_answers.proofs.Ranking.{chunk_more}
-use Rattle.eco_answers.proofs.standing.copied.Goals.{then-ascends, else-ascends}
 use Rattle.eco_answers.proofs.standing.copied.Goals as goal
 
 pub loop-list-preserved : goal.loop-list-preserved
@@ -18,8 +17,5 @@ loop-list-preserved c =
     rw longer.0 (record {
       begun = longer.1;
       within = within;
-      up = elim c.if-ascends.branch [
-        | then-ascends w ↦ search rules
-        | else-ascends w ↦ search rules
-      ];
+      up = search rules;
     })

@@ -1,4 +1,4 @@
-use Rattle.eco_answers.proofs.Common.{◌≡◌, ◌-◌, ◌≤◌, IsTrue, length}
+use Rattle.eco_answers.proofs.Common.{◌≡◌, ◌-◌, ◌≤◌, length}
 use Rattle.std.specs.Prelude.{take}
 use Rattle.eco_answers.specs.Ranking.{AscendTo}
 use Rattle.eco_answers.proofs.standing.copied.Given as goal
@@ -7,7 +7,7 @@ abbrev pub invariant-loop-list : goal.invariant-loop-list
 invariant-loop-list l = record {
   begun : l.list.items ≡ take (length l.list.items) l.entities;
   within : length l.list.items ≤ length l.entities;
-  up : IsTrue l.ascends → AscendTo l.entities (length l.list.items);
+  up : AscendTo l.entities (length l.list.items);
 }
 
 abbrev pub decreases-loop-list : goal.decreases-loop-list

@@ -1,5 +1,5 @@
 -- Rows that columns show one after another.
-use Rattle.eco_frame.proofs.Common.{◌≡◌, ◌+◌, ◌-◌, ◌<◌, ◌≤◌, ◌++◌, ℕ, zero, suc, List, [], ◌∷◌, Option, None, Some, ap}
+use Rattle.eco_frame.proofs.Common.{◌≡◌, ◌+◌, ◌<◌, ◌≤◌, ◌++◌, ℕ, zero, suc, List, [], ◌∷◌, Option, None, Some, ap}
 use Rattle.eco_frame.proofs.Common.{arith, drop, flat_map, get_or}
 use Rattle.eco_frame.proofs.Common.{get_or-drop, get_or_from_slice_get, length, length-drop, length-take-le, map, refl, slice_get, slice_get-map}
 use Rattle.eco_frame.proofs.Common.{slice_get_within, subst, sym, take, take_more, unwrap_or, option_map, option_to_list, ◌∙◌, AllByRecursion, Command}

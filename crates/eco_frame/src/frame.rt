@@ -11,6 +11,7 @@ ghost use Rattle.eco_frame.specs.Stops.{IsNextOut, IsWhy};
 
 use crate::batch::run_next;
 use crate::points::sync_points;
+use crate::pool::StagePool;
 use crate::progress::Progress;
 use crate::report::FrameReport;
 use crate::stop::FrameStop;
@@ -145,9 +146,36 @@ pub fn run_frame<B: SystemBody + Sync + Drop, R: Threads + Sync>(
         (model_of B.reads_of B.writes_of B.kills_of B.taken B.commands)
         world.old systems.now stop world.new) }
 {
+    run_frame_with(
+        rt,
+        alloc,
+        world,
+        systems,
+        workers,
+        &mut StagePool::new(alloc),
+    )
+}
+
+/// Runs a frame, as [`run_frame`] does, whose commands are recorded into the memory of a pool; what they took is there for the
+/// next frame. So who runs one frame after another doesn't ask the system for memory in each.
+pub fn run_frame_with<B: SystemBody + Sync + Drop, R: Threads + Sync>(
+    rt: &R,
+    alloc: Global,
+    world: &mut World,
+    systems: &Systems<B>,
+    workers: u32,
+    pool: &mut StagePool,
+) -> Result<FrameReport, FrameStop>
+    requires workers { (1 ≤ workers) × (workers ≤ 64) }
+    ensures frame { IsFrameBy workers world.old
+        (map (model_of B.reads_of B.writes_of B.kills_of B.taken B.commands) systems.now) result world.new }
+    ensures why { IfErr result (λ stop. IsWhy B.taken B.commands
+        (model_of B.reads_of B.writes_of B.kills_of B.taken B.commands)
+        world.old systems.now stop world.new) }
+{
     let Ok(batches) = sync_points(alloc, world, systems) else {
         return Err(stop_at_once(world, systems));
     };
-    let mut spare = Vec::new(alloc);
-    run_batches(rt, alloc, world, systems, &batches, workers, &mut spare)
+    let spare = &mut pool.stages;
+    run_batches(rt, alloc, world, systems, &batches, workers, spare)
 }

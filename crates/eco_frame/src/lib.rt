@@ -12,6 +12,7 @@ mod part;
 mod piece;
 mod pipeline;
 mod points;
+mod pool;
 mod progress;
 mod report;
 mod row;
@@ -23,8 +24,9 @@ pub use eco_bodies::{
     Action, BodyRow, Draws, LentRow, NotAdded, Script, System, SystemBody, Systems, record_command,
 };
 pub use eco_systems::{PHASES, Phase};
-pub use frame::run_frame;
+pub use frame::{run_frame, run_frame_with};
 pub use pipeline::Pipeline;
 pub use points::sync_points;
+pub use pool::StagePool;
 pub use report::FrameReport;
 pub use stop::FrameStop;

@@ -8,11 +8,11 @@ ghost use Rattle.eco_frame.specs.Stops.{IsWhy};
 
 use crate::frame::{run_batches, stop_at_once};
 use crate::points::declarations;
+use crate::pool::StagePool;
 use crate::report::FrameReport;
 use crate::stop::FrameStop;
 use eco_batches::Plan;
 use eco_bodies::{SystemBody, Systems};
-use eco_stages::Stage;
 use eco_world::World;
 use std::alloc::{AllocError, Global};
 use std::marker::Model;
@@ -25,7 +25,7 @@ pub struct Pipeline<'a, B: SystemBody> {
     systems: &'a Systems<B>,
     plan: Plan<'a>,
     // Whose memory the commands of the next batch take.
-    spare: Vec<Stage>,
+    pool: StagePool,
 }
 
 // By hand, so that dropping it is one call: a derived drop is proved anew at each early return of whoever holds it.
@@ -34,7 +34,7 @@ impl<B: SystemBody> Drop for Pipeline<'_, B> {
         let Pipeline {
             systems: _,
             plan: _,
-            spare: _,
+            pool: _,
         } = self;
     }
 }
@@ -86,7 +86,7 @@ impl<'a, B: SystemBody + Sync + Drop> Pipeline<'a, B> {
         Ok(Pipeline {
             systems,
             plan,
-            spare: Vec::new(alloc),
+            pool: StagePool::new(alloc),
         })
     }
 
@@ -110,7 +110,7 @@ impl<'a, B: SystemBody + Sync + Drop> Pipeline<'a, B> {
         let Ok(()) = renew(&mut self.plan, alloc, world, self.systems) else {
             return Err(stop_at_once(world, self.systems));
         };
-        let spare = &mut self.spare;
+        let spare = &mut self.pool.stages;
         run_batches(
             rt,
             alloc,

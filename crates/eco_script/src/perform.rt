@@ -13,7 +13,7 @@ use crate::making::make_change;
 use crate::reply::Reply;
 use eco_bodies::{Script, Systems};
 use eco_formats::{ShownValue, read_actions, read_entity, read_id, read_query, record_stages};
-use eco_frame::run_frame;
+use eco_frame::{StagePool, run_frame_with};
 use eco_ids::Refusal;
 use eco_steps::{Actions, Stages, WrittenChange, WrittenStep};
 use eco_systems::Phase;
@@ -153,12 +153,13 @@ fn frame<R: Threads + Sync>(
     world: &mut World,
     systems: &Systems<Script>,
     workers: u32,
+    pool: &mut StagePool,
 ) -> Reply
     requires { (1 ≤ workers) × (workers ≤ 64) }
     ensures { StepReplies workers (reached world.old systems.now) steps.frame
         (answer_view (Ok result)) (reached world.new systems.now) }
 {
-    match run_frame(rt, alloc, world, systems, workers) {
+    match run_frame_with(rt, alloc, world, systems, workers, pool) {
         Ok(report) => Reply::Framed(report),
         Err(stop) => Reply::Stopped(stop),
     }
@@ -171,6 +172,7 @@ fn answer<R: Threads + Sync>(
     world: &mut World,
     systems: &mut Systems<Script>,
     workers: u32,
+    pool: &mut StagePool,
     step: &WrittenStep<'_>,
 ) -> Result<Reply, Refusal>
     requires workers { (1 ≤ workers) × (workers ≤ 64) }
@@ -196,18 +198,20 @@ fn answer<R: Threads + Sync>(
             query,
             actions,
         } => system(alloc, world, systems, name, phase, query, actions),
-        WrittenStep::Frame => Ok(frame(rt, alloc, world, systems, workers)),
+        WrittenStep::Frame => Ok(frame(rt, alloc, world, systems, workers, pool)),
     }
 }
 
 /// Runs a step on a world of its script's edition, with the systems declared so far; a frame of them has so many
-/// workers, 1 to 64. What is recorded for a merge, and what is kept of a system, take their memory from `alloc`.
+/// workers, 1 to 64, and records into the memory of the pool. What is recorded for a merge, and what is kept of a system, take
+/// their memory from `alloc`.
 pub fn perform<R: Threads + Sync>(
     rt: &R,
     alloc: Global,
     world: &mut World,
     systems: &mut Systems<Script>,
     workers: u32,
+    pool: &mut StagePool,
     step: &WrittenStep<'_>,
 ) -> Result<Reply, Refusal>
     requires workers { (1 ≤ workers) × (workers ≤ 64) }
@@ -216,5 +220,5 @@ pub fn perform<R: Threads + Sync>(
         (answer_view result) (reached world.new systems.new) }
     ensures edition { world.new.edition ≡ world.old.edition }
 {
-    answer(rt, alloc, world, systems, workers, step)
+    answer(rt, alloc, world, systems, workers, pool, step)
 }

@@ -17,6 +17,7 @@ use crate::status::Status;
 use crate::{perform, reply};
 use eco_bodies::Systems;
 use eco_devices::{DeviceFailed, ScriptReader, ScriptWriter};
+use eco_frame::StagePool;
 use eco_steps::{ReadError, WrittenScript, WrittenStep};
 use eco_world::World;
 use serde_json::Value;
@@ -33,6 +34,7 @@ fn run_step<R: Threads + Sync>(
     world: &mut World,
     systems: &mut Systems,
     workers: u32,
+    pool: &mut StagePool,
     step: &WrittenStep<'_>,
     text: &mut String,
 ) -> Result<(), AllocError>
@@ -44,7 +46,7 @@ fn run_step<R: Threads + Sync>(
         × (string_bytes text.new ≡ string_bytes text.old ++ lines)) }
     ensures edition { world.new.edition ≡ world.old.edition }
 {
-    let answer = perform::perform(rt, alloc, world, systems, workers, step);
+    let answer = perform::perform(rt, alloc, world, systems, workers, pool, step);
     reply::push_step_lines(text, world, &answer)
 }
 
@@ -88,9 +90,19 @@ fn run_steps<R: Threads + Sync, W: ScriptWriter>(
 {
     eco_grammar::laws::texts_are_read();
     let mut systems = Systems::new(alloc);
+    let mut pool = StagePool::new(alloc);
     let mut text = String::new(alloc);
     for step in steps {
-        let Ok(()) = run_step(rt, alloc, world, &mut systems, workers, step, &mut text) else {
+        let Ok(()) = run_step(
+            rt,
+            alloc,
+            world,
+            &mut systems,
+            workers,
+            &mut pool,
+            step,
+            &mut text,
+        ) else {
             return Err(Fault::Memory);
         };
         let Ok(()) = write_many(writer, &mut text) else {

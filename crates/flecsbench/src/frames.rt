@@ -19,6 +19,9 @@ enum FrameStart {
     Many,
     /// N entities have a tag, and one system makes an entity with another tag for each.
     Spawn,
+    /// N entities have a tag; one system adds another to each who lacks it, and one takes that away, and adds a third and takes it
+    /// away. A frame was run before.
+    Tags,
     /// N entities have a value, and one system sets each to a number that takes long to find. A frame was run before.
     Heavy,
     /// N systems of ten patterns each, of which the batches are made and none runs.
@@ -39,6 +42,7 @@ pub const FRAME_CASES: &[FrameCase] = &[
     FrameCase("frame_many/2", &[6_500], FrameStart::Many, 100, 2),
     FrameCase("frame_many/4", &[6_500], FrameStart::Many, 100, 4),
     FrameCase("frame_spawn", &[100_000], FrameStart::Spawn, 1, 1),
+    FrameCase("frame_tags", &[20_000], FrameStart::Tags, 1, 1),
     FrameCase("frame_heavy/1", &[100_000], FrameStart::Heavy, 1, 1),
     FrameCase("frame_heavy/2", &[100_000], FrameStart::Heavy, 1, 2),
     FrameCase("frame_heavy/4", &[100_000], FrameStart::Heavy, 1, 4),
@@ -56,6 +60,7 @@ fn make(
         FrameStart::Sum => simulation.make_sum(alloc, size),
         FrameStart::Many => simulation.make_many(alloc, size),
         FrameStart::Spawn => simulation.make_spawn(alloc, size),
+        FrameStart::Tags => simulation.make_tags(alloc, size),
         FrameStart::Points => simulation.make_points(alloc, size),
         FrameStart::Heavy => Ok(()),
     }

@@ -147,23 +147,23 @@ fn text_of_ten(alloc: Global, components: Group, number: u32) -> Result<String, 
     Ok(text)
 }
 
-// A body of one action.
-fn script_of(alloc: Global, query: &Query, action: Action) -> Result<Script, Refusal> {
-    let actions = Vec::from_slice(alloc, &[action])?;
+// A body of these actions.
+fn script_of(alloc: Global, query: &Query, actions: &[Action]) -> Result<Script, Refusal> {
+    let actions = Vec::from_slice(alloc, actions)?;
     Script::new(alloc, query, actions)
 }
 
 impl Simulation<Script> {
-    // Adds a system of one action, which is named by a number.
+    // Adds a system of these actions, which is named by a number.
     fn add_system(
         &mut self,
         alloc: Global,
         number: u32,
         text: &str,
-        action: Action,
+        actions: &[Action],
     ) -> Result<(), Refusal> {
         let query = self.world.read_query(text)?;
-        let body = script_of(alloc, &query, action)?;
+        let body = script_of(alloc, &query, actions)?;
         let name = format!(in alloc; "s{number}")?;
         self.add(&name, query, body)
     }
@@ -180,7 +180,7 @@ impl Simulation<Script> {
             alloc,
             0,
             "[inout] P, [in] V",
-            Action::Sum { into: 0, from: 1 },
+            &[Action::Sum { into: 0, from: 1 }],
         )
     }
 
@@ -190,7 +190,16 @@ impl Simulation<Script> {
             let component = self.world.component(None, 1)?;
             self.make_entities(1, &[(component, Value::of([1]))])?;
             let text = format!(in alloc; "{component}")?;
-            self.add_system(alloc, number, &text, Action::Sum { into: 0, from: 0 })?;
+            self.add_system(alloc, number, &text, &[Action::Sum { into: 0, from: 0 }])?;
+        }
+        Ok(())
+    }
+
+    // So many entities, each with this tag.
+    fn make_tagged(&mut self, count: u32, tag: Entity) -> Result<(), Refusal> {
+        for _ in 0..count {
+            let entity = self.world.create(None)?;
+            self.world.add(entity, Id::One(tag))?;
         }
         Ok(())
     }
@@ -199,11 +208,24 @@ impl Simulation<Script> {
     pub fn make_spawn(&mut self, alloc: Global, size: u32) -> Result<(), Refusal> {
         let tag = self.world.create(Some("T"))?;
         let other = self.world.create(Some("U"))?;
-        for _ in 0..size {
-            let entity = self.world.create(None)?;
-            self.world.add(entity, Id::One(tag))?;
-        }
-        self.add_system(alloc, 0, "T", Action::Spawn(Some(Id::One(other))))
+        self.make_tagged(size, tag)?;
+        self.add_system(alloc, 0, "T", &[Action::Spawn(Some(Id::One(other)))])
+    }
+
+    /// So many entities have a tag. A system adds another to each who lacks it, and one takes that away from each who has it, and
+    /// adds a third and takes it away.
+    pub fn make_tags(&mut self, alloc: Global, size: u32) -> Result<(), Refusal> {
+        let tag = self.world.create(Some("T"))?;
+        let other = Id::One(self.world.create(Some("U"))?);
+        let third = Id::One(self.world.create(Some("V"))?);
+        self.make_tagged(size, tag)?;
+        self.add_system(alloc, 0, "T, !U", &[Action::AddId(other)])?;
+        let turns = [
+            Action::RemoveId(other),
+            Action::AddId(third),
+            Action::RemoveId(third),
+        ];
+        self.add_system(alloc, 1, "T, U", &turns)
     }
 
     /// As many systems as components: each asks for ten of these, from its own on each hundredth, and writes its own. So of a
@@ -215,7 +237,7 @@ impl Simulation<Script> {
         }
         for number in 0..size {
             let text = text_of_ten(alloc, components, number)?;
-            self.add_system(alloc, number, &text, Action::Sum { into: 0, from: 0 })?;
+            self.add_system(alloc, number, &text, &[Action::Sum { into: 0, from: 0 }])?;
         }
         Ok(())
     }

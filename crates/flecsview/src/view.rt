@@ -8,6 +8,7 @@ use crate::named::push_named;
 use crate::stopped::Stopped;
 use eco_bodies::Systems;
 use eco_checker::push_meaning;
+use eco_frame::StagePool;
 use eco_ids::Refusal;
 use eco_script::perform::perform;
 use eco_script::reply::push_step_lines;
@@ -66,6 +67,7 @@ fn view_step<T: Threads + Sync>(
     alloc: Global,
     world: &mut World,
     systems: &mut Systems,
+    pool: &mut StagePool,
     step: &WrittenStep<'_>,
     text: &mut String,
     has_names: bool,
@@ -73,7 +75,7 @@ fn view_step<T: Threads + Sync>(
     requires { KeepsTo world.old.edition (step_view step.now) }
     ensures { world.new.edition ≡ world.old.edition }
 {
-    let answer = perform(threads, alloc, world, systems, 1, step);
+    let answer = perform(threads, alloc, world, systems, 1, pool, step);
     let mut lines = String::new(alloc);
     push_step_lines(&mut lines, world, &answer)?;
     push_lines(text, world, lines.as_str(), has_names)?;
@@ -96,6 +98,7 @@ pub fn view_steps<T: Threads + Sync>(
     requires { All (λ step. KeepsTo world.old.edition (step_view step)) steps.now }
 {
     let mut text = String::new(rt.alloc());
+    let mut pool = StagePool::new(rt.alloc());
     for (number, step) in steps.iter().enumerate() {
         if let Some(value) = values.get(number) {
             push_step(rt.alloc(), &mut text, number, value)?;
@@ -105,6 +108,7 @@ pub fn view_steps<T: Threads + Sync>(
             rt.alloc(),
             world,
             systems,
+            &mut pool,
             step,
             &mut text,
             has_names,

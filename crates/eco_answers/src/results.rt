@@ -240,9 +240,9 @@ fn expanded_in(alloc: Global, found: Standings<'_>, terms: &[Slot]) -> Result<Re
 ///
 /// The choices are made once for each table. Its time grows with the results and with the tables that the shortest group of
 /// the query's patterns finds, or that the store keeps at hand for the query, where `cache` is the number by
-/// which it keeps that. Rows of several tables come into order by a walk over the known indices where these are at
-/// most some sixteen times as many, and by sorting where the rows are few among them. An `Err` comes where memory is
-/// refused, and never where there is no result.
+/// which it keeps that. Rows of one table that ascend stay as they stand; others come into order by a walk over the
+/// known indices where these are at most some sixteen times as many, and by sorting where the rows are few among them.
+/// An `Err` comes where memory is refused, and never where there is no result.
 pub fn results_of(
     alloc: Global,
     places: &Places<'_>,

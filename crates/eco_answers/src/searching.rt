@@ -39,7 +39,8 @@ fn count_among(tables: &Tables, slots: &[TableSlot], indices: usize) -> usize
 }
 
 // All who stand in the tables of these slots, ascending: as they stand, where it is one table whose rows ascend; else by a walk
-// over the indices where they are many of those who live, and by sorting them where they are few. An `Err` comes where memory is refused, and never where there are no slots.
+// over the indices where they are many of those who live, and by sorting them where they are few. An `Err` comes where memory
+// is refused, and never where there are no slots.
 fn standing_in(
     alloc: Global,
     entities: &EntityIndex,

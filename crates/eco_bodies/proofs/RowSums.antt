@@ -2,8 +2,9 @@
 use Rattle.eco_bodies.proofs.Common.{◌≡◌, ℕ, ◌+◌, ◌<◌, ◌≤◌, true, false, List, [], ◌∷◌, ◌++◌, length, drop, get_or, slice_get}
 use Rattle.eco_bodies.proofs.Common.{Option}
 use Rattle.eco_bodies.proofs.Common.{None, Some, refl, sym, ap, ◌∙◌, arith, append_assoc, cond, flat_map, Entity, Id, Pattern, matches_one}
-use Rattle.eco_bodies.proofs.Common.{Action, Sum}
+use Rattle.eco_bodies.proofs.Common.{Action, IsTrue, Sum, subst, suc, true≢false, zero}
 use Rattle.std.proofs.lemmas.List.{append-nil, drop_more, nil_from_length, length-drop}
+use Rattle.std.proofs.lemmas.Option.{none-some, same_Some}
 use Rattle.std.specs.List.{AllByRecursion}
 use Rattle.std.specs.Prelude.{option_and_then, option_map, option_to_list}
 use Rattle.eco_ids.specs.declared.value.Value.{Value}
@@ -11,7 +12,7 @@ use Rattle.eco_ids.specs.Run.{Command, Set}
 use Rattle.eco_systems.specs.Rows.{ValuedRow}
 use Rattle.eco_bodies.specs.Lent.{item_at}
 use Rattle.eco_bodies.specs.RowSums.{set_both, set_sum_of, set_sums_from}
-use Rattle.eco_bodies.specs.Scripts.{script_commands, script_taken, set_of, sum_at}
+use Rattle.eco_bodies.specs.Scripts.{are_summed, fits_action, script_commands, script_taken, set_of, sum_at}
 use Rattle.eco_bodies.specs.Sums.{sum_of_both}
 use Rattle.eco_bodies.specs.Taking.{AllTook, commands_in_turn, taken_of}
 
@@ -55,6 +56,12 @@ same_all : (entries : List (Option Id)) (f g : ValuedRow → List Command) → (
 same_all entries f g same [] shared = refl
 same_all entries f g same (row ∷ rows) shared =
     ap (λ l. l ++ flat_map f rows) (same row shared.0) ∙ ap (λ l. g row ++ l) (same_all entries f g same rows shared.1)
+
+-- what is so of all is so of each
+pub so_of_each : {A : Type 0} (P : A → Type 0) (xs : List A) (k : ℕ) (x : A) → AllByRecursion P xs → slice_get xs k ≡ Some x → P x
+so_of_each P [] k x all at = absurd (none-some x at)
+so_of_each P (y ∷ ys) zero x all at = subst P (same_Some y x at) all.0
+so_of_each P (y ∷ ys) (suc k) x all at = so_of_each P ys k x all.1 at
 
 abbrev nothing : ValuedRow → List Command
 nothing row = []
@@ -121,6 +128,21 @@ module _ (writes : List Pattern) (into from : ℕ) where
         ∙ ap (λ o. set_by row.entity o (item_at entries from) (item_at row.values into) (item_at row.values from)) at
         ∙ ap (λ o. set_by row.entity (Some i) o (item_at row.values into) (item_at row.values from)) other
         ∙ matched row.entity i _ matches) rows shared))
+
+  -- a row that has what a sum asks
+  pub fit_set : (row : ValuedRow) (i : Id) → item_at row.entries into ≡ Some i → IsTrue (fits_action writes row.entries (Sum into from))
+      → set_sum_of into from i row ≡ set_in row
+  fit_set row i at fits =
+      let a = item_at row.values into in
+      let b = item_at row.values from in
+      by_other (item_at row.entries from) (subst (λ o. IsTrue (are_summed writes o (item_at row.entries from))) at fits)
+      ∙ ap (λ o. set_by row.entity o (item_at row.entries from) a b) (sym at)
+    where
+      by_other : (j : Option Id) → IsTrue (are_summed writes (Some i) j)
+          → set_both row.entity i (item_at row.values into) (item_at row.values from)
+          ≡ set_by row.entity (Some i) j (item_at row.values into) (item_at row.values from)
+      by_other (Some j) matches = sym (matched row.entity i (sum_of_both (item_at row.values into) (item_at row.values from)) matches)
+      by_other None none = absurd (true≢false (sym none))
 
   -- ---- a script of one sum
 

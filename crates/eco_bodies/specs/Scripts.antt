@@ -1,5 +1,5 @@
 -- What a script records.
-use Rattle.std.specs.Prelude.{ℕ, Bool, true, List, [], ◌∷◌, Option, Some, None, option_and_then, option_to_list, if◌then◌else◌}
+use Rattle.std.specs.Prelude.{ℕ, Bool, true, false, List, [], ◌∷◌, Option, Some, None, option_and_then, option_to_list, if◌then◌else◌}
 use Rattle.eco_ids.specs.declared.entity.Entity.{Entity}
 use Rattle.eco_ids.specs.declared.id.Id.{Id}
 use Rattle.eco_ids.specs.declared.pattern.Pattern.{Pattern}
@@ -27,6 +27,16 @@ abbrev pub set_of : List Pattern → Entity → Option Id → Option Value → O
 set_of writes e None v = None
 set_of writes e (Some i) None = None
 set_of writes e (Some i) (Some v) = if matches_one writes i then Some (Set e i v) else None
+
+-- the entry of a slot and that of another, whose values are summed, are there, and the first matches a pattern
+abbrev pub are_summed : List Pattern → Option Id → Option Id → Bool
+are_summed writes (Some i) (Some j) = matches_one writes i
+are_summed writes _ _ = false
+
+-- rows of these entries have what an action asks of them
+abbrev pub fits_action : List Pattern → List (Option Id) → Action → Bool
+fits_action writes entries (Sum into from) = are_summed writes (item_at entries into) (item_at entries from)
+fits_action writes entries _ = true
 
 -- the change of the row's entity that an action records
 abbrev pub change_by_action : List Pattern → ValuedRow → Action → Option Command

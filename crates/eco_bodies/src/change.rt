@@ -1,10 +1,13 @@
 //! An action recorded for a row.
-ghost use Rattle.std.specs.Prelude.{◌≡◌, ◌++◌, ◌∷◌, [], false, flat_map, option_to_list, IfErr, IfOk, List};
+ghost use Rattle.std.specs.Prelude.{◌≡◌, ◌++◌, ◌∷◌, [], false, flat_map, option_to_list, IfErr, IfOk, IsTrue, List};
 ghost use Rattle.std.specs.Prelude.{OnOk, Some};
 ghost use Rattle.eco_ids.specs.declared.entity.Entity.{Entity as EntityData};
 ghost use Rattle.eco_systems.specs.Systems.{matches_one};
+ghost use Rattle.std.specs.List.{list_all};
 ghost use Rattle.eco_bodies.specs.Lent.{item_at};
-ghost use Rattle.eco_bodies.specs.Scripts.{action_commands, change_by_action, set_of, spawned, sum_at, takes_draws};
+ghost use Rattle.eco_bodies.specs.RowSums.{set_sum_of};
+ghost use Rattle.eco_bodies.specs.Scripts.{action_commands, change_by_action, fits_action, set_of, spawned, sum_at};
+ghost use Rattle.eco_bodies.specs.Scripts.{takes_draws};
 ghost use Rattle.eco_bodies.specs.Taking.{OneTook};
 ghost use Rattle.eco_stages.specs.Taking.{Broke, stopped_by};
 
@@ -63,18 +66,18 @@ fn set_id(
 
 // Records that an entry is set to a value, where it is there and matches one of the patterns. Apart, as `add_up_apart` is.
 #[inline(never)]
-fn set_entry(
+fn set_entry<R: BodyRow>(
     writes: &[Pattern],
-    entity: Entity,
-    entry: Option<Id>,
-    value: Value,
+    row: &R,
+    slot: usize,
+    value: &Value,
     stage: &mut Stage,
 ) -> Result<(), AllocError>
-    ensures ok { OnOk result (stage.new
-        ≡ stage.old ++ option_to_list (set_of writes.now entity entry (Some value))) }
+    ensures ok { OnOk result (stage.new ≡ stage.old ++ option_to_list (set_of writes.now
+        (R.row_of row.now).entity (item_at (R.row_of row.now).entries slot) (Some value.now))) }
 {
-    match entry {
-        Some(id) => set_id(writes, entity, id, value, stage),
+    match entry_at(row, slot) {
+        Some(id) => set_id(writes, row.entity(), id, *value, stage),
         None => Ok(()),
     }
 }
@@ -124,7 +127,44 @@ fn add_up_apart<R: BodyRow>(
     add_up(writes, row, into, from, stage)
 }
 
-// Records the same for rows that share their entries, of which it asks once.
+// Records that an id is set to the sum of the values in two slots, where there are both. Apart, as the function before.
+#[inline(never)]
+fn set_sum_apart<R: BodyRow>(
+    row: &R,
+    into: usize,
+    from: usize,
+    id: Id,
+    stage: &mut Stage,
+) -> Result<(), AllocError>
+    ensures ok { OnOk result (stage.new ≡ stage.old ++ set_sum_of into from id (R.row_of row.now)) }
+{
+    row.set_sum(into, from, id, stage)
+}
+
+// Whether rows of these entries have what an action asks of them: a sum two entries, of which the first matches a pattern.
+#[inline(always)]
+fn fits_action(writes: &[Pattern], entries: &[Option<Id>], action: &Action) -> bool
+    ensures { result ≡ fits_action writes.now entries.now action.now }
+{
+    let Action::Sum { into, from } = action else {
+        return true;
+    };
+    match (entry_in(entries, *into), entry_in(entries, *from)) {
+        (Some(id), Some(_)) => matches_one(writes, id),
+        _ => false,
+    }
+}
+
+/// Whether rows of these entries have what each of some actions asks of them.
+pub(crate) fn fit_all(writes: &[Pattern], entries: &[Option<Id>], actions: &[Action]) -> bool
+    ensures { result ≡ list_all (fits_action writes.now entries.now) actions.now }
+{
+    actions
+        .iter()
+        .all(|action| fits_action(writes, entries, action))
+}
+
+// Records the sum for rows that share their entries, of which it asks once.
 #[inline(always)]
 pub(crate) fn add_up_all<R: BodyRows>(
     writes: &[Pattern],
@@ -149,24 +189,27 @@ pub(crate) fn add_up_all<R: BodyRows>(
     rows.set_sums(into, from, id, stage)
 }
 
-// Records the change of the row's entity that an action makes.
+// Records the change of the row's entity that an action makes. Less is asked where the row is known to have what it asks.
 #[inline(always)]
 fn record_change<R: BodyRow>(
     writes: &[Pattern],
     action: &Action,
+    known: bool,
     row: &R,
     stage: &mut Stage,
 ) -> Result<(), AllocError>
+    requires { IsTrue known → IsTrue (fits_action writes.now (R.row_of row.now).entries action.now) }
     ensures ok { OnOk result (stage.new
         ≡ stage.old ++ option_to_list (change_by_action writes.now (R.row_of row.now) action.now)) }
 {
-    match *action {
-        Action::AddId(id) => put_command(stage, Command::Add(row.entity(), id)),
-        Action::RemoveId(id) => put_command(stage, Command::Remove(row.entity(), id)),
-        Action::Put { slot, value } => {
-            set_entry(writes, row.entity(), entry_at(row, slot), value, stage)
-        }
-        Action::Sum { into, from } => add_up_apart(writes, row, into, from, stage),
+    match action {
+        Action::AddId(id) => put_command(stage, Command::Add(row.entity(), *id)),
+        Action::RemoveId(id) => put_command(stage, Command::Remove(row.entity(), *id)),
+        Action::Put { slot, value } => set_entry(writes, row, *slot, value, stage),
+        Action::Sum { into, from } => match entry_at(row, *into) {
+            Some(id) if known => set_sum_apart(row, *into, *from, id, stage),
+            _ => add_up_apart(writes, row, *into, *from, stage),
+        },
         Action::Kill => put_command(stage, Command::Delete(row.entity())),
         Action::Spawn(_) => Ok(()),
     }
@@ -192,16 +235,18 @@ fn spawn<D: Draws>(id: Option<Id>, draws: &mut D, stage: &mut Stage) -> Result<(
     Ok(())
 }
 
-/// Records an action for a row.
+/// Records an action for a row. Less is asked where the row is known to have what the action asks.
 #[inline(always)]
 pub(crate) fn record_action<R: BodyRow, D: Draws>(
     writes: &[Pattern],
     action: &Action,
+    known: bool,
     row: &R,
     draws: &mut D,
     stage: &mut Stage,
 ) -> Result<(), Refusal>
-    requires { D.is_dry draws.old ≡ false }
+    requires wet { D.is_dry draws.old ≡ false }
+    requires known { IsTrue known → IsTrue (fits_action writes.now (R.row_of row.now).entries action.now) }
     ensures rest { D.rest draws.new ≡ D.rest draws.old }
     ensures wet { IfOk result (λ _. D.is_dry draws.new ≡ false) }
     ensures ok { IfOk result (λ _. OneTook
@@ -214,7 +259,7 @@ pub(crate) fn record_action<R: BodyRow, D: Draws>(
     match *action {
         Action::Spawn(id) => spawn(id, draws, stage),
         _ => {
-            record_change(writes, action, row, stage)?;
+            record_change(writes, action, known, row, stage)?;
             Ok(())
         }
     }

@@ -4,7 +4,7 @@ ghost use Rattle.std.specs.List.{list_all, list_any};
 ghost use Rattle.eco_ids.specs.declared.refusal.Refusal.TheVariants.{OutOfMemory};
 ghost use Rattle.eco_bodies.specs.Actions as spec;
 ghost use Rattle.eco_bodies.specs.Actions.{script_writes};
-ghost use Rattle.eco_bodies.specs.Scripts.{is_allowed, script_commands, script_taken};
+ghost use Rattle.eco_bodies.specs.Scripts.{fits_action, is_allowed, script_commands, script_taken};
 ghost use Rattle.eco_bodies.specs.Taking.{AllTook, OneTook, taken_of};
 ghost use Rattle.eco_stages.specs.Taking.{Broke, stopped_by};
 ghost use Rattle.eco_bodies.specs.Allowing.{script_declared};
@@ -12,7 +12,7 @@ ghost use Rattle.eco_bodies.specs.Settling.{script_settled};
 
 use crate::action::{Action, first_refusal, some_kills};
 use crate::body::SystemBody;
-use crate::change::{add_up, add_up_all, record_action};
+use crate::change::{add_up, add_up_all, fit_all, record_action};
 use crate::row::BodyRow;
 use crate::rows::BodyRows;
 use crate::writes::script_writes;
@@ -42,16 +42,19 @@ impl Drop for Script {
     }
 }
 
-// Records the actions for a row, one after another.
+// Records the actions for a row, one after another. Less is asked where the row is known to have what they ask.
 #[inline(always)]
 fn record_in_turn<R: BodyRow, D: Draws>(
     writes: &[Pattern],
     actions: &[Action],
+    known: bool,
     row: &R,
     draws: &mut D,
     stage: &mut Stage,
 ) -> Result<(), Refusal>
-    requires { D.is_dry draws.old ≡ false }
+    requires wet { D.is_dry draws.old ≡ false }
+    requires known { IsTrue known
+        → IsTrue (list_all (fits_action writes.now (R.row_of row.now).entries) actions.now) }
     ensures rest { D.rest draws.new ≡ D.rest draws.old }
     ensures wet { IfOk result (λ _. D.is_dry draws.new ≡ false) }
     ensures ok { IfOk result (λ _. OneTook (script_commands writes.now actions.now) (script_taken actions.now)
@@ -61,7 +64,7 @@ fn record_in_turn<R: BodyRow, D: Draws>(
         (D.so_far draws.old) (D.so_far draws.new) (D.is_dry draws.new)) }
 {
     for action in actions {
-        record_action(writes, action, row, draws, stage)?;
+        record_action(writes, action, known, row, draws, stage)?;
     }
     Ok(())
 }
@@ -91,7 +94,7 @@ fn record_actions<R: BodyRow, D: Draws>(
             add_up(writes, row, *into, *from, stage)?;
             Ok(())
         }
-        _ => record_in_turn(writes, actions, row, draws, stage),
+        _ => record_in_turn(writes, actions, false, row, draws, stage),
     }
 }
 
@@ -113,8 +116,9 @@ fn record_each<R: BodyRows, D: Draws>(
     ensures err { IfErr result (λ _. Broke (taken_of (script_taken actions.now) (R.rows_of rows.now))
         (D.so_far draws.old) (D.so_far draws.new) (D.is_dry draws.new)) }
 {
+    let known = fit_all(writes, rows.entries(), actions);
     for place in 0..rows.len() {
-        record_in_turn(writes, actions, &rows.row(place), draws, stage)?;
+        record_in_turn(writes, actions, known, &rows.row(place), draws, stage)?;
     }
     Ok(())
 }

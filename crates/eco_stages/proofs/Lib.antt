@@ -1,5 +1,6 @@
 pub mod Common
 pub mod Counted
 pub mod Fields
+pub mod InTurn
 pub mod Keeping
 pub mod Merges

@@ -7,16 +7,17 @@ ghost use Rattle.eco_stages.specs.Recorded.{EndsInSet, KeepsBoth, KeepsNothing, 
 
 use crate::run_set::RunSet;
 use crate::width::{Width, has_few};
-use eco_ids::{Entity, Value};
+use eco_ids::{Entity, Id, Value};
 use std::alloc::{AllocError, Global};
 
-/// The sets and the names that the commands of a stage speak of, each by its place in a list: the sets of values of one
-/// width stand in one, so that a merge reads no more than was recorded.
+/// The sets, the ids that sets have in turn, and the names that the commands of a stage speak of, each by its place in a list:
+/// the sets of values of one width stand in one, so that a merge reads no more than was recorded.
 #[derive(Debug)]
 pub struct Kept {
     pub(crate) ones: Vec<RunSet<1>>,
     pub(crate) threes: Vec<RunSet<3>>,
     pub(crate) eights: Vec<RunSet<8>>,
+    pub(crate) ids: Vec<Id>,
     pub(crate) names: Vec<Option<String>>,
 }
 
@@ -27,6 +28,7 @@ impl Drop for Kept {
             ones: _,
             threes: _,
             eights: _,
+            ids: _,
             names: _,
         } = self;
     }
@@ -118,6 +120,7 @@ impl Kept {
             ones: Vec::new(alloc),
             threes: Vec::new(alloc),
             eights: Vec::new(alloc),
+            ids: Vec::new(alloc),
             names: Vec::new(alloc),
         }
     }
@@ -145,6 +148,13 @@ impl Kept {
         }
     }
 
+    /// The id that stands at a place among those that sets have in turn. None, where there is none.
+    pub fn id_at(&self, place: usize) -> Option<Id>
+        ensures { result ≡ slice_get self.now.ids.items place }
+    {
+        self.ids.get(place).copied()
+    }
+
     // The set comes last of those of this width, at this place. The answer is whether it does: else there are more or fewer of
     // them, the width doesn't keep the value whole, or no memory is left, and all is as it was.
     #[inline(always)]
@@ -159,6 +169,7 @@ impl Kept {
         ensures at { IsTrue result → place ≡ length (sets_of width self.old) }
         ensures no { IsFalse result → KeepsSame self.old self.new }
         ensures kept { StaysKept self.old self.new }
+        ensures ids { self.new.ids ≡ self.old.ids }
     {
         match width {
             Width::One => push_narrowed(&mut self.ones, place, entity, value),
@@ -176,6 +187,7 @@ impl Kept {
         self.ones.reserve(other.ones.len())?;
         self.threes.reserve(other.threes.len())?;
         self.eights.reserve(other.eights.len())?;
+        self.ids.reserve(other.ids.len())?;
         self.names.append(&mut names)?;
         // There is room for these.
         self.ones.extend_from_slice(other.ones.as_slice()).unwrap();
@@ -185,6 +197,7 @@ impl Kept {
         self.eights
             .extend_from_slice(other.eights.as_slice())
             .unwrap();
+        self.ids.extend_from_slice(other.ids.as_slice()).unwrap();
         Ok(())
     }
 
@@ -195,6 +208,7 @@ impl Kept {
         self.ones.clear();
         self.threes.clear();
         self.eights.clear();
+        self.ids.clear();
         self.names.clear();
     }
 }

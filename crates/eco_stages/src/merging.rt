@@ -3,7 +3,7 @@ ghost use Rattle.std.specs.Prelude.{◌≡◌, ◌+◌, ◌≤◌, ◌<◌, ◌+
 ghost use Rattle.eco_ids.specs.Run.{Create, Add, Remove, Clear, Rename, Delete, DeleteWith, RemoveAll};
 ghost use Rattle.eco_ids.specs.World.{WorldState};
 ghost use Rattle.eco_stages.specs.Merging.{all_commands, has_commands, AreDone, IsApplied};
-ghost use Rattle.eco_stages.specs.Recorded.{SpeaksOfKept, commands_at, commands_of, set_of_run};
+ghost use Rattle.eco_stages.specs.Recorded.{SpeaksOfKept, commands_at, commands_of, in_turn, set_of_run};
 
 use crate::kept::Kept;
 use crate::laws::commands_are_done_in_turn;
@@ -72,6 +72,27 @@ pub trait MergeTarget {
         requires { length outcomes.old.outcomes + length sets.now ≤ outcomes.old.room }
         ensures { AreDone (world self.old) (map (set_of_run id) sets.now)
             outcomes.old outcomes.new (world self.new) };
+
+    /// A run of sets of these ids in turn is done, one after another, and their outcomes appended. Their values have one field.
+    fn apply_ones_in_turn(&mut self, ids: &[Id], sets: &[RunSet<1>], outcomes: &mut Outcomes)
+        requires ids { (0 < length ids.now) × (length ids.now ≤ 4) }
+        requires room { length outcomes.old.outcomes + length sets.now ≤ outcomes.old.room }
+        ensures { AreDone (world self.old) (in_turn ids.now 0 sets.now)
+            outcomes.old outcomes.new (world self.new) };
+
+    /// The same of values of three fields.
+    fn apply_threes_in_turn(&mut self, ids: &[Id], sets: &[RunSet<3>], outcomes: &mut Outcomes)
+        requires ids { (0 < length ids.now) × (length ids.now ≤ 4) }
+        requires room { length outcomes.old.outcomes + length sets.now ≤ outcomes.old.room }
+        ensures { AreDone (world self.old) (in_turn ids.now 0 sets.now)
+            outcomes.old outcomes.new (world self.new) };
+
+    /// The same of values of eight fields.
+    fn apply_eights_in_turn(&mut self, ids: &[Id], sets: &[RunSet<8>], outcomes: &mut Outcomes)
+        requires ids { (0 < length ids.now) × (length ids.now ≤ 4) }
+        requires room { length outcomes.old.outcomes + length sets.now ≤ outcomes.old.room }
+        ensures { AreDone (world self.old) (in_turn ids.now 0 sets.now)
+            outcomes.old outcomes.new (world self.new) };
 }
 
 // What `apply` does, also with a command that is rare in long stages. Apart, so that what these keep takes no room where
@@ -100,6 +121,19 @@ fn apply_rest<W: MergeTarget>(
                 Width::One => world.apply_ones(*id, &kept.ones[*first..end], outcomes),
                 Width::Three => world.apply_threes(*id, &kept.threes[*first..end], outcomes),
                 Width::Eight => world.apply_eights(*id, &kept.eights[*first..end], outcomes),
+            }
+        }
+        Recorded::Turns(width, count, turns, _, at, first) => {
+            let end = *first + *count as usize;
+            let ids = &kept.ids[*at..*at + *turns as usize];
+            match width {
+                Width::One => world.apply_ones_in_turn(ids, &kept.ones[*first..end], outcomes),
+                Width::Three => {
+                    world.apply_threes_in_turn(ids, &kept.threes[*first..end], outcomes)
+                }
+                Width::Eight => {
+                    world.apply_eights_in_turn(ids, &kept.eights[*first..end], outcomes)
+                }
             }
         }
         Recorded::Clear(entity) => outcomes.push(world.apply_clear(*entity)),

@@ -9,7 +9,7 @@ use crate::width::Width;
 use eco_ids::{Entity, Id};
 
 /// A command as a stage keeps it, in half a line of the processor's cache: what not all have room for stands apart, in the
-/// stage's lists. Sets of one id, one after another, are a run, and one of these.
+/// stage's lists. Sets of one id, one after another, are a run, and one of these, and so are sets of several ids in turn.
 #[derive(Clone, Copy, Debug)]
 pub enum Recorded {
     /// [`Command::Create`].
@@ -20,6 +20,10 @@ pub enum Recorded {
     Remove(Entity, Id),
     /// [`Command::Set`], so often: to the values of so many sets of this width, from a place on, all of the id.
     Set(Width, u16, Id, usize),
+    /// [`Command::Set`], so often, of ids in turn, as a system records them that writes several components of each row: to the
+    /// values of so many sets of this width, from the second place on, of so many ids, from the first place on. The number
+    /// before the places tells whose turn the next is.
+    Turns(Width, u16, u8, u8, usize, usize),
     /// [`Command::Clear`].
     Clear(Entity),
     /// [`Command::Rename`] to the name at a place.
@@ -59,6 +63,10 @@ impl Recorded {
         match self {
             Recorded::Set(width, count, id, first) => {
                 Recorded::Set(width, count, id, own.count(width) + first)
+            }
+            Recorded::Turns(width, count, turns, turn, at, first) => {
+                let (at, first) = (own.ids.len() + at, own.count(width) + first);
+                Recorded::Turns(width, count, turns, turn, at, first)
             }
             Recorded::Rename(entity, place) => Recorded::Rename(entity, own.names.len() + place),
             _ => self,

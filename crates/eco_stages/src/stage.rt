@@ -5,6 +5,8 @@ ghost use Rattle.eco_ids.specs.Run.{Set};
 ghost use Rattle.eco_stages.specs.Commands.{command_of};
 ghost use Rattle.eco_stages.specs.Recorded.{SpeaksOfKept, StandsAlone, commands_of, moved_by};
 
+mod turns;
+
 use crate::command::Command;
 use crate::kept::{Kept, has_room};
 use crate::recorded::Recorded;
@@ -92,6 +94,8 @@ impl Stage {
     {
         if let Command::Set(entity, id, value) = command {
             return self.record_in_run(*entity, *id, *value)
+                || self.record_in_turn(*entity, *id, *value)
+                || self.ends_in_set() && self.record_turns(*entity, *id, *value)
                 || self.record_run(*entity, *id, *value);
         }
         match Recorded::of(command) {

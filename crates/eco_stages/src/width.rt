@@ -53,4 +53,13 @@ impl Width {
             Width::Three
         }
     }
+
+    // The one that keeps more of a value.
+    pub(crate) fn wider(self, other: Width) -> Width {
+        match self {
+            Width::One => other,
+            Width::Three if other == Width::Eight => Width::Eight,
+            _ => self,
+        }
+    }
 }

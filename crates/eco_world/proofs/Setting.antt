@@ -44,3 +44,8 @@ module _ (w : WorldState) (e : Entity) (i : Id) (v : Value) where
       → MatchBool had (w2 ≡ changed w e (with_value i v)) (w2 ≡ w) → IfSome known (IsSettable w2 i)
   known_kept w2 known is true eq = subst (λ x. IfSome known (IsSettable x i)) (sym eq) (known_still known is)
   known_kept w2 known is false eq = subst (λ x. IfSome known (IsSettable x i)) (sym eq) is
+
+  pub others_kept : (w2 : WorldState) (had : Bool) → MatchBool had (w2 ≡ changed w e (with_value i v)) (w2 ≡ w)
+      → (j : Id) (fields : ℕ) → IsSettable w j fields → IsSettable w2 j fields
+  others_kept w2 true eq j fields is = subst (λ x. IsSettable x j fields) (sym eq) (settable_still j fields is)
+  others_kept w2 false eq j fields is = subst (λ x. IsSettable x j fields) (sym eq) is

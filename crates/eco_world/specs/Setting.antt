@@ -1,6 +1,8 @@
 -- At which ids values may stand.
-use Rattle.std.specs.Prelude.{◌≡◌, ℕ, Bool, true, false, not, List, ◌∷◌, Some, Err, is_some}
+use Rattle.std.specs.Prelude.{◌≡◌, ◌<◌, ℕ, Bool, true, false, not, List, ◌∷◌, IfSome, None, Option, Some, Err, get_or, is_some, length}
+use Rattle.eco_ids.specs.declared.entity.TheConstants.{CHILD_OF}
 use Rattle.eco_ids.specs.declared.id.Id.{Id}
+use Rattle.eco_ids.specs.declared.id.Id.TheVariants.{One}
 use Rattle.eco_ids.specs.declared.refusal.Refusal.{Refusal}
 use Rattle.eco_ids.specs.declared.refusal.Refusal.TheVariants.{DeadId, NotData}
 use Rattle.eco_ids.specs.Outcome.{first_refusal, is_out_of_memory}
@@ -11,6 +13,10 @@ use Rattle.eco_ids.specs.World.{WorldState, names_living}
 pub record IsSettable (w : WorldState) (i : Id) (fields : ℕ) : Type 0 where
   pub living : names_living w i ≡ true
   pub has_fields : arity w i ≡ Some fields
+
+-- so does each of the ids whose number of fields is known
+abbrev pub AreSettable : WorldState → List Id → List (Option ℕ) → Type 0
+AreSettable w ids known = (k : ℕ) → k < length ids → IfSome (get_or known k None) (IsSettable w (get_or ids k (One CHILD_OF)))
 
 -- this is refused first, whatever is tested after: the id names one that doesn't live, or it is no data
 pub record IsUnsettable (w : WorldState) (i : Id) (why : Refusal) : Type 0 where

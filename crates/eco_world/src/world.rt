@@ -41,6 +41,7 @@ mod merging;
 mod mirrors;
 mod queries;
 mod setting;
+mod turns;
 
 /// Entities, each with a name or none and with the ids that were added to it, where an id that is data has a value
 /// (Flecs manual, Quickstart), and the queries that were added.

@@ -6,6 +6,8 @@ mod batches;
 #[cfg(test)]
 mod entities;
 #[cfg(test)]
+mod in_turn;
+#[cfg(test)]
 mod names;
 #[cfg(test)]
 mod printed;

@@ -29,6 +29,8 @@ mod frames;
 #[cfg(test)]
 mod handles;
 #[cfg(test)]
+mod in_turn;
+#[cfg(test)]
 mod layout;
 #[cfg(test)]
 mod listings;

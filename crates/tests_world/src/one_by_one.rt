@@ -77,19 +77,36 @@ pub fn number_of(outcome: Result<(), Refusal>) -> u8 {
     }
 }
 
-// What so many sets of a run do, from a place on.
-fn add_run(
+// What the set at a place does, if there is one and its id is known.
+fn add_set(
     deeds: &mut Vec<Option<Deed>>,
     kept: &Kept,
     width: Width,
-    id: Id,
-    first: usize,
-    count: usize,
+    id: Option<Id>,
+    place: usize,
 ) -> Result<(), AllocError> {
-    for place in 0..count {
-        let place = first.wrapping_add(place);
-        if let Some((holder, _)) = kept.set_at(width, place) {
-            deeds.push(Some(Deed::Set(Had { holder, id })))?;
+    if let (Some((holder, _)), Some(id)) = (kept.set_at(width, place), id) {
+        deeds.push(Some(Deed::Set(Had { holder, id })))?;
+    }
+    Ok(())
+}
+
+// What the sets of a run do, if the command is one.
+fn add_run(
+    deeds: &mut Vec<Option<Deed>>,
+    kept: &Kept,
+    command: &Recorded,
+) -> Result<(), AllocError> {
+    if let Recorded::Set(width, count, id, first) = *command {
+        for k in 0..usize::from(count) {
+            add_set(deeds, kept, width, Some(id), first.wrapping_add(k))?;
+        }
+    }
+    if let Recorded::Turns(width, count, turns, _, at, first) = *command {
+        for k in 0..usize::from(count) {
+            let turn = k.checked_rem(usize::from(turns)).unwrap_or(0);
+            let id = kept.id_at(at.wrapping_add(turn));
+            add_set(deeds, kept, width, id, first.wrapping_add(k))?;
         }
     }
     Ok(())
@@ -100,10 +117,9 @@ fn deeds_of(alloc: Global, stage: &Stage) -> Result<Vec<Option<Deed>>, AllocErro
     let (commands, kept) = stage.recorded();
     let mut deeds = Vec::with_capacity(alloc, stage.len())?;
     for command in commands {
-        if let Recorded::Set(width, count, id, first) = command {
-            add_run(&mut deeds, kept, *width, *id, *first, usize::from(*count))?;
-        } else {
-            deeds.push(Deed::of(command))?;
+        match command {
+            Recorded::Set(..) | Recorded::Turns(..) => add_run(&mut deeds, kept, command)?,
+            _ => deeds.push(Deed::of(command))?,
         }
     }
     Ok(deeds)

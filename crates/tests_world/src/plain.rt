@@ -78,7 +78,10 @@ impl Deed {
             Recorded::RemoveAll(id) => Some(Deed::RemoveAll(*id)),
             Recorded::Delete(entity) => Some(Deed::Delete(*entity)),
             Recorded::DeleteWith(id) => Some(Deed::DeleteWith(*id)),
-            Recorded::Create(_) | Recorded::Set(_, _, _, _) | Recorded::Rename(_, _) => None,
+            Recorded::Create(_)
+            | Recorded::Set(..)
+            | Recorded::Turns(..)
+            | Recorded::Rename(_, _) => None,
         }
     }
 

@@ -14,7 +14,7 @@ use eco_ids::{Entity, Id, Refusal, Value};
 use eco_stages::{MergeTarget, Outcomes, Report, RunSet, Stage, apply_stages, room_for};
 
 // So many sets at most are done before rows are looked for again, where none or one stood in such.
-const APART: usize = 16;
+pub(crate) const APART: usize = 16;
 
 // What is guessed of the sets of a run that are left: a guess that is wrong takes longer, and nothing else, so no contract
 // speaks of it.
@@ -265,11 +265,26 @@ impl MergeTarget for World {
     fn apply_eights(&mut self, id: Id, sets: &[RunSet<8>], outcomes: &mut Outcomes) {
         self.apply_run(id, sets, outcomes);
     }
+
+    #[inline(always)]
+    fn apply_ones_in_turn(&mut self, ids: &[Id], sets: &[RunSet<1>], outcomes: &mut Outcomes) {
+        self.apply_in_turn(ids, sets, outcomes);
+    }
+
+    #[inline(always)]
+    fn apply_threes_in_turn(&mut self, ids: &[Id], sets: &[RunSet<3>], outcomes: &mut Outcomes) {
+        self.apply_in_turn(ids, sets, outcomes);
+    }
+
+    #[inline(always)]
+    fn apply_eights_in_turn(&mut self, ids: &[Id], sets: &[RunSet<8>], outcomes: &mut Outcomes) {
+        self.apply_in_turn(ids, sets, outcomes);
+    }
 }
 
 // The sets from a place on.
 #[inline(always)]
-fn sets_from<const N: usize>(sets: &[RunSet<N>], place: usize) -> &[RunSet<N>]
+pub(crate) fn sets_from<const N: usize>(sets: &[RunSet<N>], place: usize) -> &[RunSet<N>]
     requires { place ≤ length sets.now }
     ensures { result.now ≡ drop place sets.now }
 {

@@ -1,8 +1,9 @@
 //! Sets of values, also of many at one id.
-ghost use Rattle.std.specs.Prelude.{◌≡◌, ◌≤◌, IfErr, IfOk, IfSome, IsFalse, IsTrue, Ok, OnOk};
+ghost use Rattle.std.specs.Prelude.{◌≡◌, ◌≤◌, ℕ, IfErr, IfOk, IfSome, IsFalse, IsTrue, Ok, OnOk};
 ghost use Rattle.eco_ids.specs.Outcome.{Meets};
 ghost use Rattle.eco_ids.specs.Step.{Sets, may_set};
 ghost use Rattle.eco_ids.specs.World.{padded};
+ghost use Rattle.eco_ids.specs.declared.id.Id.{Id as Ids};
 ghost use Rattle.eco_ids.specs.declared.value.TheConstants.{FIELD_COUNT};
 ghost use Rattle.eco_world.specs.Actor.{MaySet, MayNotSet};
 ghost use Rattle.eco_world.specs.Setting.{IsSettable, IsUnsettable};
@@ -54,6 +55,8 @@ impl World {
         ensures met { IsTrue result → Meets (Sets self.old entity id value) (may_set self.old entity id value)
             self.old (Ok tt) self.new }
         ensures known { IfSome known (IsSettable self.new id) }
+        ensures others { (other : Ids) (fields : ℕ) → IsSettable self.old other fields
+            → IsSettable self.new other fields }
         ensures same { IsFalse result → self.new ≡ self.old }
     {
         eco_ids::laws::steps_keep_lawful();

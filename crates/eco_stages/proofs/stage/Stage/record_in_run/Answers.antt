@@ -1,12 +1,12 @@
 use Rattle.std.proofs.Common.{Fits, rules, w64}
 use Rattle.std.proofs.Math.ListN.{set}
 use Rattle.std.proofs.lemmas.List.{set-get_or}
-use Rattle.std.proofs.lemmas.List.Elements.{All-same}
+use Rattle.std.proofs.lemmas.List.Elements.{All-same, All-set}
 use Rattle.eco_stages.proofs.Common.{◌≡◌, ◌≤◌, ◌-◌, ◌+◌, ◌∷◌, [], ◌++◌, ap, arith, length, refl, subst, sym, vec_len, List, ◌∙◌}
-use Rattle.eco_stages.proofs.Keeping.{counted, longer_still, one_longer, same, still}
+use Rattle.eco_stages.proofs.Keeping.{counted, last_longer, run_longer, run_still, same, still}
 use Rattle.eco_ids.specs.Run.{Set}
 use Rattle.eco_ids.specs.World.{padded}
-use Rattle.eco_stages.specs.Recorded.{EndsInSet, SpeaksOfKept, commands_of, sets_of}
+use Rattle.eco_stages.specs.Recorded.{EndsInSet, SpeaksOfKept, commands_at, commands_of, sets_of}
 use Rattle.eco_stages.specs.declared.recorded.Recorded.{Recorded}
 use Rattle.eco_stages.specs.declared.recorded.Recorded.TheVariants as recorded
 use Rattle.eco_stages.specs.declared.width.Width.{Width}
@@ -74,9 +74,13 @@ module _ (c : goal.After-self-3-1) where
   told =
       let items = c.self.inside.commands.items in
       let before = commands_of c.self.inside.kept items in
-      one_longer c.self.inside.kept c.push_at.new.self c.push_at.ensures.kept items (vec_len c.self.inside.commands - 1) c.in-Some.last.now
-      c.in-Set.width c.in-Set.count c.in-Set.own c.in-Set.first (c.args.entity, ends.0) last c.in-Some.ensures.value c.in-Set.is all ends.1
-      c.self.invariant.kept
+      let old = c.self.inside.kept in
+      let new = c.push_at.new.self in
+      let more = run_longer old new c.push_at.ensures.kept c.in-Set.width c.in-Set.count c.in-Set.first (c.args.entity, ends.0) all ends.1 c.in-Set.own in
+      let longer = more ∙ ap (λ r. commands_at old r ++ Set c.args.entity c.in-Set.own (padded ends.0) ∷ []) (sym c.in-Set.is) in
+      last_longer c.self.inside.kept c.push_at.new.self c.push_at.ensures.kept items (vec_len c.self.inside.commands - 1) c.in-Some.last.now
+      (recorded.Set c.in-Set.width (c.in-Set.count + 1) c.in-Set.own c.in-Set.first) (Set c.args.entity c.in-Set.own (padded ends.0))
+      last c.in-Some.ensures.value longer c.self.invariant.kept
       ∙ ap (λ i. before ++ Set c.args.entity i (padded ends.0) ∷ []) (c.is.ensures.exact.0 c.if-not-is.false)
       ∙ ap (λ v. before ++ Set c.args.entity c.args.id v ∷ []) ends.2
 
@@ -86,8 +90,10 @@ invariant_of-self-2 c =
     let new = c.push_at.new.self in
     let items = c.self.inside.commands.items in
     record {
-      kept = longer_still old new c.push_at.ensures.kept items (vec_len c.self.inside.commands - 1) c.in-Set.width c.in-Set.count c.in-Set.own
-          c.in-Set.first (c.args.entity, (ends c).0) (all c) (ends c).1 c.self.invariant.kept;
+      kept = All-set (SpeaksOfKept new) items (vec_len c.self.inside.commands - 1)
+          (recorded.Set c.in-Set.width (c.in-Set.count + 1) c.in-Set.own c.in-Set.first)
+          (run_still old new c.push_at.ensures.kept c.in-Set.width c.in-Set.count c.in-Set.first (c.args.entity, (ends c).0) (all c) (ends c).1 c.in-Set.own)
+          (still old new c.push_at.ensures.kept items c.self.invariant.kept);
       count = counted c.self.inside.count (commands_of old items) (commands_of new (now c)) (Set c.args.entity c.args.id c.args.value)
           c.self.invariant.count (told c);
     }

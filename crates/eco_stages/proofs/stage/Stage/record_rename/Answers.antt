@@ -15,7 +15,7 @@ module _ (c : goal.After-self-1) where
   old = c.self.inside.kept
 
   abbrev new : Kept
-  new = let k = old in record { ones = k.ones; threes = k.threes; eights = k.eights; names = c.push_reserved.new.self }
+  new = let k = old in record { ones = k.ones; threes = k.threes; eights = k.eights; ids = k.ids; names = c.push_reserved.new.self }
 
   abbrev name : Option (List ℕ)
   name = option_map string_bytes c.args.name
@@ -28,7 +28,7 @@ module _ (c : goal.After-self-1) where
   keeps : StaysKept old new
   keeps =
       all_keep old new (as_it_was c.self.inside.kept.ones.items) (as_it_was c.self.inside.kept.threes.items)
-      (as_it_was c.self.inside.kept.eights.items) (name ∷ [], one)
+      (as_it_was c.self.inside.kept.eights.items) (as_it_was c.self.inside.kept.ids.items) (name ∷ [], one)
 
   abbrev rename : Recorded
   rename = recorded.Rename c.args.entity c.len-place.result

@@ -4,12 +4,12 @@ use Rattle.eco_stages.proofs.Common.{length-drop, length-take-le, take_more}
 use Rattle.std.specs.Prelude.{◌*◌, ◌/◌, ◌%◌, Some, slice_get}
 use Rattle.std.proofs.Math.Nat.{add-mod_right}
 use Rattle.std.proofs.lemmas.Nat.{div-add-mod', mod-mul-add, mod_below}
-use Rattle.std.proofs.lemmas.Option.{get_or_from_slice_get}
+use Rattle.std.proofs.lemmas.Option.{get_or_from_slice_get, slice_get_within}
 use Rattle.std.proofs.lemmas.List.{get_or_default, get_or-drop, get_or-take}
 use Rattle.eco_ids.specs.declared.entity.TheConstants.{CHILD_OF}
 use Rattle.eco_ids.specs.declared.id.Id.{Id}
 use Rattle.eco_ids.specs.declared.id.Id.TheVariants.{One}
-use Rattle.eco_stages.specs.Recorded.{RunSet, id_in_turn, in_turn, set_of_run}
+use Rattle.eco_stages.specs.Recorded.{InTurnOneMore, RunSet, id_in_turn, in_turn, set_of_run}
 
 -- some sets, and others after them
 pub in_turn-append : (ids : List Id) (n : ℕ) (xs ys : List RunSet) → in_turn ids n (xs ++ ys) ≡ in_turn ids n xs ++ in_turn ids (n + length xs) ys
@@ -23,16 +23,18 @@ pub in_turn_counted : (ids : List Id) (n : ℕ) (xs : List RunSet) → length (i
 in_turn_counted ids n [] = refl
 in_turn_counted ids n (x ∷ xs) = omega (arith, in_turn_counted ids (n + 1) xs)
 
--- some of the sets, and one more
-pub in_turn_more : (ids : List Id) (n k : ℕ) (xs : List RunSet) (x : RunSet) → k < length xs → x ≡ get_or xs k x
-    → in_turn ids n (take (k + 1) xs) ≡ in_turn ids n (take k xs) ++ set_of_run (id_in_turn ids (n + k)) x ∷ []
-in_turn_more ids n k xs x less is =
-    ap (in_turn ids n) (take_more xs k x less ∙ ap (λ y. take k xs ++ y ∷ []) (sym is)) ∙ in_turn-append ids n (take k xs) (x ∷ [])
-    ∙ ap (λ m. in_turn ids n (take k xs) ++ in_turn ids (n + m) (x ∷ [])) (length-take-le k xs (omega (arith, less)))
-
 -- of which id one is
-pub whose : (ids : List Id) (n turn : ℕ) (i : Id) → turn ≡ n % length ids → slice_get ids turn ≡ Some i → id_in_turn ids n ≡ i
+whose : (ids : List Id) (n turn : ℕ) (i : Id) → turn ≡ n % length ids → slice_get ids turn ≡ Some i → id_in_turn ids n ≡ i
 whose ids n turn i at is = ap (λ k. get_or ids k (One CHILD_OF)) (sym at) ∙ get_or_from_slice_get ids turn i (One CHILD_OF) is
+
+-- so many of the sets, and one more
+pub one_more_in_turn : InTurnOneMore
+one_more_in_turn ids n k turn xs x i is at own =
+    let less = slice_get_within xs k x is in
+    ap (in_turn ids n) (take_more xs k x less ∙ ap (λ y. take k xs ++ y ∷ []) (get_or_from_slice_get xs k x x is))
+    ∙ in_turn-append ids n (take k xs) (x ∷ [])
+    ∙ ap (λ m. in_turn ids n (take k xs) ++ in_turn ids (n + m) (x ∷ [])) (length-take-le k xs (omega (arith, less)))
+    ∙ ap (λ j. in_turn ids n (take k xs) ++ set_of_run j x ∷ []) (whose ids (n + k) turn i at own)
 
 -- the turn of some id is that of the one behind it next
 pub next_up : (n k turn : ℕ) → turn ≡ n % k → turn + 1 < k → turn + 1 ≡ (n + 1) % k

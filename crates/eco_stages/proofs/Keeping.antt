@@ -22,6 +22,7 @@ use Rattle.eco_stages.specs.Recorded.{AreInTurn, EndsInSet, SpeaksOfKept, KeepsB
 use Rattle.eco_stages.specs.Recorded.{id_in_turn, in_turn, moved_by, names_of, set_of_run, sets_of}
 use Rattle.eco_stages.specs.declared.kept.Kept.{Kept}
 use Rattle.eco_stages.specs.declared.recorded.Recorded.{Recorded}
+use Rattle.eco_stages.specs.declared.recorded.TheConstants.{MOST_IN_TURN}
 use Rattle.eco_stages.specs.declared.recorded.Recorded.TheVariants.{Create, Add, Remove, Set, Turns, Clear, Rename, Delete, DeleteWith, RemoveAll}
 use Rattle.eco_stages.specs.declared.width.Width.{Width}
 use Rattle.eco_stages.specs.declared.width.Width.TheVariants.{One, Three, Eight}
@@ -244,7 +245,7 @@ first_of old new w e i v first at ends =
 -- a run of one set, of the first of these ids in turn, which came last
 pub first_in_turn : (old mid new : Kept) (w : Width) (e : Entity) (i : Id) (v : Value) (first at turns : ℕ) (others : List Id)
     → first ≡ length (sets_of w old) → EndsInSet w e v old mid → ((x : Width) → sets_of x new ≡ sets_of x mid)
-    → at ≡ length mid.ids.items → new.ids.items ≡ mid.ids.items ++ i ∷ others → turns ≡ length (i ∷ others) → 2 ≤ turns → turns ≤ 4
+    → at ≡ length mid.ids.items → new.ids.items ≡ mid.ids.items ++ i ∷ others → turns ≡ length (i ∷ others) → 2 ≤ turns → turns ≤ MOST_IN_TURN
     → (commands_at new (Turns w 1 turns 1 at first) ≡ run.Set e i v ∷ []) × SpeaksOfKept new (Turns w 1 turns 1 at first)
 first_in_turn old mid new w e i v first at turns others place ends same begin pushed many some few =
     let own = sets_of w old in

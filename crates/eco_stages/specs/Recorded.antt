@@ -1,6 +1,6 @@
 -- What a stage keeps of commands means.
 use Rattle.std.specs.Prelude.{◌≡◌, ◌+◌, ◌<◌, ◌≤◌, ◌%◌, ◌++◌, ◌∷◌, [], ℕ, ℤ, Bool, List, None, Option, drop, flat_map, get_or, length, map, option_map}
-use Rattle.std.specs.Prelude.{string_bytes, take, true, false}
+use Rattle.std.specs.Prelude.{slice_get, string_bytes, take, true, false, Some}
 use Rattle.eco_ids.specs.Run as run
 use Rattle.eco_ids.specs.World.{padded}
 use Rattle.eco_ids.specs.declared.entity.Entity.{Entity}
@@ -10,6 +10,7 @@ use Rattle.eco_ids.specs.declared.entity.TheConstants.{CHILD_OF}
 use Rattle.eco_ids.specs.declared.value.Value.{Value}
 use Rattle.eco_stages.specs.declared.kept.Kept.{Kept}
 use Rattle.eco_stages.specs.declared.recorded.Recorded.{Recorded}
+use Rattle.eco_stages.specs.declared.recorded.TheConstants.{MOST_IN_TURN}
 use Rattle.eco_stages.specs.declared.recorded.Recorded.TheVariants.{Create, Add, Remove, Set, Turns, Clear, Rename, Delete, DeleteWith, RemoveAll}
 use Rattle.eco_stages.specs.declared.width.Width.{Width}
 use Rattle.eco_stages.specs.declared.width.Width.TheVariants.{One, Three, Eight}
@@ -47,6 +48,23 @@ abbrev pub in_turn : List Id → ℕ → List RunSet → List run.Command
 in_turn ids n [] = []
 in_turn ids n (s ∷ ss) = set_of_run (id_in_turn ids n) s ∷ in_turn ids (n + 1) ss
 
+-- of ids in turn there are as many commands as sets
+abbrev pub InTurnAreCounted : Type 0
+InTurnAreCounted = (ids : List Id) (n : ℕ) (sets : List RunSet) → length (in_turn ids n sets) ≡ length sets
+
+-- some sets of ids in turn, and others behind them
+abbrev pub InTurnGoOn : Type 0
+InTurnGoOn =
+    (ids : List Id) (n : ℕ) (some others : List RunSet)
+    → in_turn ids n (some ++ others) ≡ in_turn ids n some ++ in_turn ids (n + length some) others
+
+-- so many sets of ids in turn, and one more, of the id whose turn it is
+abbrev pub InTurnOneMore : Type 0
+InTurnOneMore =
+    (ids : List Id) (n k turn : ℕ) (sets : List RunSet) (s : RunSet) (i : Id)
+    → slice_get sets k ≡ Some s → turn ≡ (n + k) % length ids → slice_get ids turn ≡ Some i
+    → in_turn ids n (take (k + 1) sets) ≡ in_turn ids n (take k sets) ++ set_of_run i s ∷ []
+
 -- the commands that one stands for, which is one but for runs of sets
 abbrev pub commands_at : Kept → Recorded → List run.Command
 commands_at k (Create e) = run.Create e ∷ []
@@ -70,7 +88,7 @@ pub record AreInTurn (k : Kept) (w : Width) (count turns turn at first : ℕ) : 
   pub sets : first + count ≤ length (sets_of w k)
   pub ids : at + turns ≤ length k.ids.items
   pub some : 0 < turns
-  pub few : turns ≤ 4
+  pub few : turns ≤ MOST_IN_TURN
   pub next : turn ≡ count % turns
 
 -- what one speaks of is kept
@@ -131,8 +149,3 @@ pub record KeepsBoth (own more all : Kept) : Type 0 where
 -- one set more of this width, of the entity to the value
 abbrev pub EndsInSet : Width → Entity → Value → Kept → Kept → Type 0
 EndsInSet w e v old new = (fields : List ℤ) × (sets_of w new ≡ sets_of w old ++ (e, fields) ∷ []) × (padded fields ≡ v)
-
--- the id of a set; another, where it is none
-abbrev pub id_set : Id → Recorded → Id
-id_set other (Set w count i first) = i
-id_set other _ = other

@@ -1,5 +1,5 @@
 //! What the commands of a stage speak of.
-ghost use Rattle.std.specs.Prelude.{◌≡◌, ◌<◌, ◌≤◌, ◌++◌, ◌∷◌, [], IfOk, IsFalse, IsTrue, OnErr, OnOk, length, map, option_map, slice_get, string_bytes, take, vec_capacity, vec_len};
+ghost use Rattle.std.specs.Prelude.{◌≡◌, ◌<◌, ◌≤◌, ◌+◌, ◌++◌, ◌∷◌, [], IfOk, IsFalse, IsTrue, OnErr, OnOk, length, map, option_map, slice_get, string_bytes, take, vec_capacity, vec_len};
 ghost use Rattle.eco_ids.specs.Data.{is_zero_past};
 ghost use Rattle.eco_ids.specs.World.{padded};
 ghost use Rattle.eco_ids.specs.declared.value.TheConstants.{FIELD_COUNT};
@@ -148,6 +148,15 @@ impl Kept {
         }
     }
 
+    // Whose value the set of this width at a place sets. None, where there is none.
+    pub(crate) fn holder_at(&self, width: Width, place: usize) -> Option<Entity> {
+        match width {
+            Width::One => self.ones.get(place).map(|set| set.0),
+            Width::Three => self.threes.get(place).map(|set| set.0),
+            Width::Eight => self.eights.get(place).map(|set| set.0),
+        }
+    }
+
     /// The id that stands at a place among those that sets have in turn. None, where there is none.
     pub fn id_at(&self, place: usize) -> Option<Id>
         ensures { result ≡ slice_get self.now.ids.items place }
@@ -176,6 +185,38 @@ impl Kept {
             Width::Three => push_narrowed(&mut self.threes, place, entity, value),
             Width::Eight => push_narrowed(&mut self.eights, place, entity, value),
         }
+    }
+
+    // The set comes last in a run of sets of this width, which has so many from this place on. The answer is whether it does:
+    // else others stand behind the run, it has as many as it can, the width doesn't keep the value whole, or no memory is left,
+    // and all is as it was.
+    #[inline(always)]
+    pub(crate) fn push_in_run(
+        &mut self,
+        width: Width,
+        first: usize,
+        count: &mut u16,
+        entity: Entity,
+        value: Value,
+    ) -> bool
+        requires { first + count.old ≤ length (sets_of width self.old) }
+        ensures yes { IsTrue result → EndsInSet width entity value self.old self.new }
+        ensures at { IsTrue result → first + count.old ≡ length (sets_of width self.old) }
+        ensures longer { IsTrue result → count.new ≡ count.old + 1 }
+        ensures no { IsFalse result → KeepsSame self.old self.new }
+        ensures as_long { IsFalse result → count.new ≡ count.old }
+        ensures kept { StaysKept self.old self.new }
+        ensures ids { self.new.ids ≡ self.old.ids }
+    {
+        if *count == u16::MAX {
+            return false;
+        }
+        let end = first + *count as usize;
+        if !self.push_at(width, end, entity, value) {
+            return false;
+        }
+        *count += 1;
+        true
     }
 
     // What another keeps comes last, copied. An `Err` comes where memory is refused, and leaves all as it was.

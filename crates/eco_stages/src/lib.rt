@@ -23,7 +23,7 @@ pub use iter::Iter;
 pub use kept::Kept;
 pub use merging::{MergeTarget, apply_stages, room_for};
 pub use outcomes::Outcomes;
-pub use recorded::Recorded;
+pub use recorded::{MOST_IN_TURN, Recorded};
 pub use report::Report;
 pub use run_set::RunSet;
 pub use stage::Stage;

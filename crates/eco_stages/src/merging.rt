@@ -1,9 +1,11 @@
 //! Stages that are done by whoever does commands.
-ghost use Rattle.std.specs.Prelude.{◌≡◌, ◌+◌, ◌≤◌, ◌<◌, ◌++◌, ◌∷◌, [], All, length, map, option_copied, IfOk, IsTrue, OnErr};
+ghost use Rattle.std.specs.Prelude.{◌≡◌, ◌+◌, ◌-◌, ◌≤◌, ◌<◌, ◌++◌, ◌∷◌, [], All, drop, length, map, option_copied};
+ghost use Rattle.std.specs.Prelude.{take, IfOk, IsTrue, OnErr};
 ghost use Rattle.eco_ids.specs.Run.{Create, Add, Remove, Clear, Rename, Delete, DeleteWith, RemoveAll};
 ghost use Rattle.eco_ids.specs.World.{WorldState};
 ghost use Rattle.eco_stages.specs.Merging.{all_commands, has_commands, AreDone, IsApplied};
-ghost use Rattle.eco_stages.specs.Recorded.{SpeaksOfKept, commands_at, commands_of, in_turn, set_of_run};
+ghost use Rattle.eco_stages.specs.Recorded.{SpeaksOfKept, commands_at, commands_of, in_turn, set_of_run, sets_of};
+ghost use Rattle.eco_stages.specs.declared.recorded.TheConstants.{MOST_IN_TURN};
 
 use crate::kept::Kept;
 use crate::laws::commands_are_done_in_turn;
@@ -75,24 +77,73 @@ pub trait MergeTarget {
 
     /// A run of sets of these ids in turn is done, one after another, and their outcomes appended. Their values have one field.
     fn apply_ones_in_turn(&mut self, ids: &[Id], sets: &[RunSet<1>], outcomes: &mut Outcomes)
-        requires ids { (0 < length ids.now) × (length ids.now ≤ 4) }
+        requires ids { (0 < length ids.now) × (length ids.now ≤ MOST_IN_TURN) }
         requires room { length outcomes.old.outcomes + length sets.now ≤ outcomes.old.room }
         ensures { AreDone (world self.old) (in_turn ids.now 0 sets.now)
             outcomes.old outcomes.new (world self.new) };
 
     /// The same of values of three fields.
     fn apply_threes_in_turn(&mut self, ids: &[Id], sets: &[RunSet<3>], outcomes: &mut Outcomes)
-        requires ids { (0 < length ids.now) × (length ids.now ≤ 4) }
+        requires ids { (0 < length ids.now) × (length ids.now ≤ MOST_IN_TURN) }
         requires room { length outcomes.old.outcomes + length sets.now ≤ outcomes.old.room }
         ensures { AreDone (world self.old) (in_turn ids.now 0 sets.now)
             outcomes.old outcomes.new (world self.new) };
 
     /// The same of values of eight fields.
     fn apply_eights_in_turn(&mut self, ids: &[Id], sets: &[RunSet<8>], outcomes: &mut Outcomes)
-        requires ids { (0 < length ids.now) × (length ids.now ≤ 4) }
+        requires ids { (0 < length ids.now) × (length ids.now ≤ MOST_IN_TURN) }
         requires room { length outcomes.old.outcomes + length sets.now ≤ outcomes.old.room }
         ensures { AreDone (world self.old) (in_turn ids.now 0 sets.now)
             outcomes.old outcomes.new (world self.new) };
+}
+
+// The sets of this width from a place on to another, all of the id, are done, and their outcomes appended.
+#[inline(always)]
+fn apply_run<W: MergeTarget>(
+    world: &mut W,
+    width: Width,
+    id: Id,
+    first: usize,
+    end: usize,
+    kept: &Kept,
+    outcomes: &mut Outcomes,
+)
+    requires places { (first ≤ end) × (end ≤ length (sets_of width kept.now)) }
+    requires room { length outcomes.old.outcomes + (end - first) ≤ outcomes.old.room }
+    ensures { AreDone (W.world world.old)
+        (map (set_of_run id) (take (end - first) (drop first (sets_of width kept.now))))
+        outcomes.old outcomes.new (W.world world.new) }
+{
+    match width {
+        Width::One => world.apply_ones(id, &kept.ones[first..end], outcomes),
+        Width::Three => world.apply_threes(id, &kept.threes[first..end], outcomes),
+        Width::Eight => world.apply_eights(id, &kept.eights[first..end], outcomes),
+    }
+}
+
+// The sets of this width from a place on to another, of these ids in turn, are done, and their outcomes appended.
+#[inline(always)]
+fn apply_turns<W: MergeTarget>(
+    world: &mut W,
+    width: Width,
+    ids: &[Id],
+    first: usize,
+    end: usize,
+    kept: &Kept,
+    outcomes: &mut Outcomes,
+)
+    requires ids { (0 < length ids.now) × (length ids.now ≤ MOST_IN_TURN) }
+    requires places { (first ≤ end) × (end ≤ length (sets_of width kept.now)) }
+    requires room { length outcomes.old.outcomes + (end - first) ≤ outcomes.old.room }
+    ensures { AreDone (W.world world.old)
+        (in_turn ids.now 0 (take (end - first) (drop first (sets_of width kept.now))))
+        outcomes.old outcomes.new (W.world world.new) }
+{
+    match width {
+        Width::One => world.apply_ones_in_turn(ids, &kept.ones[first..end], outcomes),
+        Width::Three => world.apply_threes_in_turn(ids, &kept.threes[first..end], outcomes),
+        Width::Eight => world.apply_eights_in_turn(ids, &kept.eights[first..end], outcomes),
+    }
 }
 
 // What `apply` does, also with a command that is rare in long stages. Apart, so that what these keep takes no room where
@@ -115,26 +166,26 @@ fn apply_rest<W: MergeTarget>(
         Recorded::Create(entity) => outcomes.push(world.apply_create(*entity)),
         Recorded::Add(entity, id) => outcomes.push(world.apply_add(*entity, *id)),
         Recorded::Remove(entity, id) => outcomes.push(world.apply_remove(*entity, *id)),
-        Recorded::Set(width, count, id, first) => {
+        Recorded::Set {
+            width,
+            count,
+            id,
+            first,
+        } => {
             let end = *first + *count as usize;
-            match width {
-                Width::One => world.apply_ones(*id, &kept.ones[*first..end], outcomes),
-                Width::Three => world.apply_threes(*id, &kept.threes[*first..end], outcomes),
-                Width::Eight => world.apply_eights(*id, &kept.eights[*first..end], outcomes),
-            }
+            apply_run(world, *width, *id, *first, end, kept, outcomes);
         }
-        Recorded::Turns(width, count, turns, _, at, first) => {
+        Recorded::Turns {
+            width,
+            count,
+            turns,
+            ids,
+            first,
+            ..
+        } => {
+            let ids = &kept.ids[*ids..*ids + *turns as usize];
             let end = *first + *count as usize;
-            let ids = &kept.ids[*at..*at + *turns as usize];
-            match width {
-                Width::One => world.apply_ones_in_turn(ids, &kept.ones[*first..end], outcomes),
-                Width::Three => {
-                    world.apply_threes_in_turn(ids, &kept.threes[*first..end], outcomes)
-                }
-                Width::Eight => {
-                    world.apply_eights_in_turn(ids, &kept.eights[*first..end], outcomes)
-                }
-            }
+            apply_turns(world, *width, ids, *first, end, kept, outcomes);
         }
         Recorded::Clear(entity) => outcomes.push(world.apply_clear(*entity)),
         Recorded::Rename(entity, place) => {

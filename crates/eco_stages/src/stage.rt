@@ -94,7 +94,6 @@ impl Stage {
     {
         if let Command::Set(entity, id, value) = command {
             return self.record_in_run(*entity, *id, *value)
-                || self.record_in_turn(*entity, *id, *value)
                 || self.ends_in_set() && self.record_turns(*entity, *id, *value)
                 || self.record_run(*entity, *id, *value);
         }
@@ -121,8 +120,8 @@ impl Stage {
         true
     }
 
-    // The set comes last in the run of the last command, where that is one of the same id, and keeps the value whole. The answer is
-    // whether it does; else the stage is as it was.
+    // The set comes last in the run of the last command, where that goes on with it. The answer is whether it does; else the stage
+    // is as it was.
     #[inline(always)]
     fn record_in_run(&mut self, entity: Entity, id: Id, value: Value) -> bool
         requires { length self.old < 2 ^ 64 - 1 }
@@ -132,20 +131,9 @@ impl Stage {
         let Some(last) = self.commands.last_mut() else {
             return false;
         };
-        let Recorded::Set(width, count, own, first) = last else {
-            return false;
-        };
-        if !own.is(id) {
+        if !last.go_on(&mut self.kept, entity, id, value) {
             return false;
         }
-        if *count == u16::MAX {
-            return false;
-        }
-        let end = *first + *count as usize;
-        if !self.kept.push_at(*width, end, entity, value) {
-            return false;
-        }
-        *count += 1;
         self.count += 1;
         true
     }
@@ -165,7 +153,12 @@ impl Stage {
         if !self.kept.push_at(width, first, entity, value) {
             return false;
         }
-        let run = Recorded::Set(width, 1, id, first);
+        let run = Recorded::Set {
+            width,
+            count: 1,
+            id,
+            first,
+        };
         self.commands.push_reserved(run);
         self.count += 1;
         true

@@ -1,4 +1,4 @@
-//! Sets of ids in turn are kept as one run, of two ids to four, and copies keep them so.
+//! Sets of ids in turn are kept as one run, of two ids to eight, and copies keep them so.
 use eco_ids::{Entity, Id, Value};
 use eco_stages::{Command, Kept, Recorded, Stage, Width};
 use std::alloc::{AllocError, Global};
@@ -61,15 +61,29 @@ fn add_set(
 
 // Puts the sets of a command behind others.
 fn add_sets(found: &mut Vec<Found>, kept: &Kept, command: Recorded) -> Result<(), AllocError> {
-    if let Recorded::Set(width, count, id, first) = command {
+    if let Recorded::Set {
+        width,
+        count,
+        id,
+        first,
+    } = command
+    {
         for k in 0..usize::from(count) {
             add_set(found, kept, Some(id), width, first.wrapping_add(k))?;
         }
     }
-    if let Recorded::Turns(width, count, turns, _, at, first) = command {
+    if let Recorded::Turns {
+        width,
+        count,
+        turns,
+        ids,
+        first,
+        ..
+    } = command
+    {
         for k in 0..usize::from(count) {
             let turn = k.checked_rem(usize::from(turns)).unwrap_or(0);
-            let id = kept.id_at(at.wrapping_add(turn));
+            let id = kept.id_at(ids.wrapping_add(turn));
             add_set(found, kept, id, width, first.wrapping_add(k))?;
         }
     }
@@ -121,14 +135,14 @@ fn are_kept(alloc: Global, turns: u32, commands: usize) -> Result<bool, AllocErr
     Ok(few && whole && are_rows(&sets_of(alloc, &copy)?, turns, 2))
 }
 
-// One id is a run by itself. Of two ids to four, each is set once before they are known to come in turn; five are not looked for.
+// One id is a run by itself. Of two ids to eight, each is set once before they are known to come in turn; nine are not looked for.
 #[test]
 fn ids_in_turn_are_a_run(rt: HostRuntime) {
     assert!(rt; are_kept(rt.alloc(), 1, 1) == Ok(true));
     assert!(rt; are_kept(rt.alloc(), 2, 3) == Ok(true));
     assert!(rt; are_kept(rt.alloc(), 3, 4) == Ok(true));
-    assert!(rt; are_kept(rt.alloc(), 4, 5) == Ok(true));
-    assert!(rt; are_kept(rt.alloc(), 5, 15) == Ok(true));
+    assert!(rt; are_kept(rt.alloc(), 8, 9) == Ok(true));
+    assert!(rt; are_kept(rt.alloc(), 9, 27) == Ok(true));
 }
 
 // Records two ids in turn, and then a value that the run is too narrow for, an id out of turn and a removal.

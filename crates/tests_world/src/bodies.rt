@@ -56,7 +56,14 @@ fn is_set(set: Option<(Entity, Value)>) -> bool {
 fn has_set(stage: &Stage) -> bool {
     let (commands, kept) = stage.recorded();
     match commands {
-        [Recorded::Set(width, 1, _, first)] => is_set(kept.set_at(*width, *first)),
+        [
+            Recorded::Set {
+                width,
+                count: 1,
+                first,
+                ..
+            },
+        ] => is_set(kept.set_at(*width, *first)),
         _ => false,
     }
 }

@@ -97,15 +97,29 @@ fn add_run(
     kept: &Kept,
     command: &Recorded,
 ) -> Result<(), AllocError> {
-    if let Recorded::Set(width, count, id, first) = *command {
+    if let Recorded::Set {
+        width,
+        count,
+        id,
+        first,
+    } = *command
+    {
         for k in 0..usize::from(count) {
             add_set(deeds, kept, width, Some(id), first.wrapping_add(k))?;
         }
     }
-    if let Recorded::Turns(width, count, turns, _, at, first) = *command {
+    if let Recorded::Turns {
+        width,
+        count,
+        turns,
+        ids,
+        first,
+        ..
+    } = *command
+    {
         for k in 0..usize::from(count) {
             let turn = k.checked_rem(usize::from(turns)).unwrap_or(0);
-            let id = kept.id_at(at.wrapping_add(turn));
+            let id = kept.id_at(ids.wrapping_add(turn));
             add_set(deeds, kept, width, id, first.wrapping_add(k))?;
         }
     }
@@ -118,7 +132,7 @@ fn deeds_of(alloc: Global, stage: &Stage) -> Result<Vec<Option<Deed>>, AllocErro
     let mut deeds = Vec::with_capacity(alloc, stage.len())?;
     for command in commands {
         match command {
-            Recorded::Set(..) | Recorded::Turns(..) => add_run(&mut deeds, kept, command)?,
+            Recorded::Set { .. } | Recorded::Turns { .. } => add_run(&mut deeds, kept, command)?,
             _ => deeds.push(Deed::of(command))?,
         }
     }

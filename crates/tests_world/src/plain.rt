@@ -79,8 +79,8 @@ impl Deed {
             Recorded::Delete(entity) => Some(Deed::Delete(*entity)),
             Recorded::DeleteWith(id) => Some(Deed::DeleteWith(*id)),
             Recorded::Create(_)
-            | Recorded::Set(..)
-            | Recorded::Turns(..)
+            | Recorded::Set { .. }
+            | Recorded::Turns { .. }
             | Recorded::Rename(_, _) => None,
         }
     }

@@ -3,15 +3,14 @@ ghost use Rattle.std.specs.Prelude.{◌≡◌, ◌+◌, ◌<◌, ◌≤◌, ◌%
 ghost use Rattle.eco_ids.specs.declared.value.TheConstants.{FIELD_COUNT};
 ghost use Rattle.eco_stages.specs.Merging.{AreDone};
 ghost use Rattle.eco_stages.specs.Recorded.{in_turn};
+ghost use Rattle.eco_stages.specs.declared.recorded.TheConstants.{MOST_IN_TURN};
 ghost use Rattle.eco_world.specs.Setting.{AreSettable};
 
 use crate::world::World;
 use crate::world::merging::{APART, sets_from};
 use eco_ids::{Id, Value};
-use eco_stages::{Outcomes, RunSet};
-
-// So many ids at most are in turn.
-const MOST: usize = 4;
+use eco_stages::laws::{commands_are_done_in_turn, sets_come_in_turn};
+use eco_stages::{MOST_IN_TURN, Outcomes, RunSet};
 
 // Whose turn is next, of so many.
 #[inline(always)]
@@ -33,11 +32,11 @@ fn id_at(ids: &[Id], place: usize) -> Id
 
 impl World {
     // How many fields the values of each of the ids have; none, where no value may stand at it.
-    fn settable_each(&self, ids: &[Id]) -> [Option<u8>; 4]
-        requires { length ids.now ≤ 4 }
+    fn settable_each(&self, ids: &[Id]) -> [Option<u8>; MOST_IN_TURN]
+        requires { length ids.now ≤ MOST_IN_TURN }
         ensures { AreSettable self.now ids.now result }
     {
-        let mut known = [None; MOST];
+        let mut known = [None; MOST_IN_TURN];
         for k in 0..ids.len() {
             known[k] = self.settable(ids[k]).ok();
         }
@@ -48,15 +47,15 @@ impl World {
     // a value where the id is there. The answer is how many.
     fn rewrite_in_turn<const N: usize>(
         &mut self,
-        known: &[Option<u8>; 4],
-        near: &mut [usize; 4],
+        known: &[Option<u8>; MOST_IN_TURN],
+        near: &mut [usize; MOST_IN_TURN],
         ids: &[Id],
         first: usize,
         sets: &[RunSet<N>],
         outcomes: &mut Outcomes,
     ) -> usize
         requires few { N ≤ FIELD_COUNT }
-        requires ids { (0 < length ids.now) × (length ids.now ≤ 4) }
+        requires ids { (0 < length ids.now) × (length ids.now ≤ MOST_IN_TURN) }
         requires known { AreSettable self.old ids.now known.now }
         requires fit { first + length sets.now < 2 ^ 64 }
         requires room { length outcomes.old.outcomes + length sets.now ≤ outcomes.old.room }
@@ -64,7 +63,8 @@ impl World {
         ensures done { AreDone self.old (in_turn ids.now first (take result sets.now))
             outcomes.old outcomes.new self.new }
     {
-        eco_stages::laws::commands_are_done_in_turn();
+        commands_are_done_in_turn();
+        sets_come_in_turn();
         let mut turn = first % ids.len();
         for k in 0..sets.len() {
             let set = &sets[k];
@@ -94,7 +94,8 @@ impl World {
         ensures done { AreDone self.old (in_turn ids.now first sets.now)
             outcomes.old outcomes.new self.new }
     {
-        eco_stages::laws::commands_are_done_in_turn();
+        commands_are_done_in_turn();
+        sets_come_in_turn();
         for k in 0..sets.len() {
             let set = &sets[k];
             let id = id_at(ids, (first + k) % ids.len());
@@ -108,7 +109,7 @@ impl World {
     // time.
     fn set_some_in_turn<const N: usize>(
         &mut self,
-        near: &mut [usize; 4],
+        near: &mut [usize; MOST_IN_TURN],
         apart: &mut usize,
         ids: &[Id],
         first: usize,
@@ -116,7 +117,7 @@ impl World {
         outcomes: &mut Outcomes,
     ) -> usize
         requires few { N ≤ FIELD_COUNT }
-        requires ids { (0 < length ids.now) × (length ids.now ≤ 4) }
+        requires ids { (0 < length ids.now) × (length ids.now ≤ MOST_IN_TURN) }
         requires some { 0 < length sets.now }
         requires fit { first + length sets.now < 2 ^ 64 }
         requires room { length outcomes.old.outcomes + length sets.now ≤ outcomes.old.room }
@@ -146,12 +147,13 @@ impl World {
         outcomes: &mut Outcomes,
     )
         requires few { N ≤ FIELD_COUNT }
-        requires ids { (0 < length ids.now) × (length ids.now ≤ 4) }
+        requires ids { (0 < length ids.now) × (length ids.now ≤ MOST_IN_TURN) }
         requires room { length outcomes.old.outcomes + length sets.now ≤ outcomes.old.room }
         ensures { AreDone self.old (in_turn ids.now 0 sets.now) outcomes.old outcomes.new self.new }
     {
-        eco_stages::laws::commands_are_done_in_turn();
-        let mut near = [0; MOST];
+        commands_are_done_in_turn();
+        sets_come_in_turn();
+        let mut near = [0; MOST_IN_TURN];
         let mut apart = 1;
         let mut done = 0;
         while done < sets.len() {

@@ -10,44 +10,27 @@ use Rattle.eco_stages.specs.declared.kept.Kept.{Kept}
 use Rattle.eco_stages.specs.declared.recorded.Recorded.{Recorded}
 use Rattle.eco_stages.specs.declared.recorded.Recorded.TheVariants.{Turns}
 use Rattle.eco_stages.specs.declared.width.Width.{Width}
-use Rattle.eco_stages.specs.declared.width.Width.TheVariants.{One, Three, Eight}
 use Rattle.eco_stages.proofs.merging.apply_rest.Goals as goal
 
 -- as many commands as sets, for which there is room
-fits_in_turn : (k : Kept) (r : Recorded) (w : Width) (count turns turn at first done room : ℕ) → SpeaksOfKept k r → done + length (commands_at k r) ≤ room
-    → r ≡ Turns w count turns turn at first → done + length (take (first + count - first) (drop first (sets_of w k))) ≤ room
-fits_in_turn k r w count turns turn at first done room kept fit is =
-    let sets = sets_of w k in
-    let within : AreInTurn k w count turns turn at first = subst (SpeaksOfKept k) is kept in
+fits_in_turn : (k : Kept) (r : Recorded) (w : Width) (count turns next at first done room : ℕ) → SpeaksOfKept k r → done + length (commands_at k r) ≤ room
+    → r ≡ Turns w count turns next at first → done + (first + count - first) ≤ room
+fits_in_turn k r w count turns next at first done room kept fit is =
+    let behind = drop first (sets_of w k) in
+    let within : AreInTurn k w count turns next at first = subst (SpeaksOfKept k) is kept in
     omega (
       arith,
       fit,
       ap (λ x. length (commands_at k x)) is,
-      in_turn_counted (take turns (drop at k.ids.items)) 0 (take count (drop first sets)),
-      length-take-le count (drop first sets) (omega (arith, within.sets, length-drop first sets)),
-      length-take-le (first + count - first) (drop first sets) (omega (arith, within.sets, length-drop first sets)),
+      in_turn_counted (take turns (drop at k.ids.items)) 0 (take count behind),
+      length-take-le count behind (omega (arith, within.sets, length-drop first (sets_of w k))),
     )
 
-pub apply_ones_in_turn-requires-clause-room : goal.apply_ones_in_turn-requires-clause-room
-apply_ones_in_turn-requires-clause-room g c =
-    rw c.deref-in-One-width.ensures.value
-    (fits_in_turn c.args.kept.now c.args.command.now One c.in-Turns.count c.in-Turns.turns c.in-Turns.field-3 c.in-Turns.at c.in-Turns.first
-    (length c.args.outcomes.now.outcomes) c.args.outcomes.now.room c.requires.kept c.requires.room
-    (c.in-Turns.is ∙ ap (λ w. Turns w c.in-Turns.count c.in-Turns.turns c.in-Turns.field-3 c.in-Turns.at c.in-Turns.first) c.in-One-width.is))
-
-pub apply_threes_in_turn-requires-clause-room : goal.apply_threes_in_turn-requires-clause-room
-apply_threes_in_turn-requires-clause-room g c =
-    rw c.deref-in-Three-width.ensures.value
-    (fits_in_turn c.args.kept.now c.args.command.now Three c.in-Turns.count c.in-Turns.turns c.in-Turns.field-3 c.in-Turns.at c.in-Turns.first
-    (length c.args.outcomes.now.outcomes) c.args.outcomes.now.room c.requires.kept c.requires.room
-    (c.in-Turns.is ∙ ap (λ w. Turns w c.in-Turns.count c.in-Turns.turns c.in-Turns.field-3 c.in-Turns.at c.in-Turns.first) c.in-Three-width.is))
-
-pub apply_eights_in_turn-requires-clause-room : goal.apply_eights_in_turn-requires-clause-room
-apply_eights_in_turn-requires-clause-room g c =
-    rw c.deref-in-Eight-width.ensures.value
-    (fits_in_turn c.args.kept.now c.args.command.now Eight c.in-Turns.count c.in-Turns.turns c.in-Turns.field-3 c.in-Turns.at c.in-Turns.first
-    (length c.args.outcomes.now.outcomes) c.args.outcomes.now.room c.requires.kept c.requires.room
-    (c.in-Turns.is ∙ ap (λ w. Turns w c.in-Turns.count c.in-Turns.turns c.in-Turns.field-3 c.in-Turns.at c.in-Turns.first) c.in-Eight-width.is))
+pub apply_turns-requires-clause-room : goal.apply_turns-requires-clause-room
+apply_turns-requires-clause-room g c =
+    let t = c.in-Turns in
+    fits_in_turn c.args.kept.now c.args.command.now t.width t.count t.turns t.next t.ids t.first
+    (length c.args.outcomes.now.outcomes) c.args.outcomes.now.room c.requires.kept c.requires.room t.is
 
 pub returns-in-Add : goal.returns-in-Add
 returns-in-Add g c =

@@ -1,12 +1,11 @@
-use Rattle.std.specs.Prelude.{map}
 use Rattle.std.proofs.Common.{Global, Vec, rules}
 use Rattle.std.proofs.lemmas.List.Elements.{All-push, All-same}
-use Rattle.eco_stages.proofs.Common.{◌≡◌, ◌≤◌, ◌-◌, ◌+◌, ◌∷◌, [], ◌++◌, List, ap, append_assoc, arith, drop, length, length-drop, length-map, length-take-le}
+use Rattle.eco_stages.proofs.Common.{◌≡◌, ◌≤◌, ◌-◌, ◌+◌, ◌∷◌, [], ◌++◌, List, ap, append_assoc, arith, drop, length, length-drop, length-take-le}
 use Rattle.eco_stages.proofs.Common.{refl, sym, take, ◌∙◌}
 use Rattle.eco_stages.proofs.Keeping.{counted, first_in_turn, ids_grow, one_more, same, stays_on, still, unchanged}
 use Rattle.eco_ids.specs.Run.{Set}
 use Rattle.eco_ids.specs.declared.id.Id.{Id}
-use Rattle.eco_stages.specs.Recorded.{SpeaksOfKept, StaysKept, commands_at, commands_of, id_set, sets_of}
+use Rattle.eco_stages.specs.Recorded.{SpeaksOfKept, StaysKept, commands_at, commands_of, sets_of}
 use Rattle.eco_stages.specs.declared.kept.Kept.{Kept}
 use Rattle.eco_stages.specs.declared.recorded.Recorded.{Recorded}
 use Rattle.eco_stages.specs.declared.recorded.Recorded.TheVariants as recorded
@@ -64,10 +63,10 @@ module _ (c : goal.After-self-1) where
   behind = let n = c.len.result - c.turns_before-turns.result + 1 in let rs = c.deref-2.result.now in take (length rs - n) (drop n rs)
 
   abbrev others : List Id
-  others = map (id_set c.args.id) behind
+  others = c.push_ids.ensures.0
 
   pushed : new.ids.items ≡ after.ids.items ++ c.args.id ∷ others
-  pushed = c.push_ids.ensures ∙ ap (λ ids. ids ++ others) c.push_reserved.ensures.items ∙ append_assoc after.ids.items (c.args.id ∷ []) others
+  pushed = c.push_ids.ensures.1 ∙ ap (λ ids. ids ++ others) c.push_reserved.ensures.items ∙ append_assoc after.ids.items (c.args.id ∷ []) others
 
   keeps : StaysKept old new
   keeps =
@@ -76,7 +75,7 @@ module _ (c : goal.After-self-1) where
       (ids_grow after new (same_sets after c.push_ids.new.ids) refl (c.args.id ∷ others, pushed))
 
   abbrev run : Recorded
-  run = recorded.Turns c.widest-width.result 1 c.turns_before-turns.result 1 c.len-at.result c.count-first.result
+  run = recorded.Turns c.widest-width.result 1 c.turns_before-turns.result 1 c.len-place.result c.count-first.result
 
   came : c.push_reserved-2.new.self.items ≡ c.self.inside.commands.items ++ run ∷ []
   came = c.push_reserved-2.ensures.items ∙ ap (λ rs. rs ++ run ∷ []) c.has_room.ensures.same
@@ -93,14 +92,14 @@ module _ (c : goal.After-self-1) where
         all,
         some,
         counts,
-        length-map behind (id_set c.args.id),
+        c.push_ids.ensures.2,
         length-take-le (length rs - n) (drop n rs) (omega (arith, length-drop n rs)),
         length-drop n rs,
       )
 
   first : (commands_at new run ≡ Set c.args.entity c.args.id c.args.value ∷ []) × SpeaksOfKept new run
   first =
-      first_in_turn room after new c.widest-width.result c.args.entity c.args.id c.args.value c.count-first.result c.len-at.result
+      first_in_turn room after new c.widest-width.result c.args.entity c.args.id c.args.value c.count-first.result c.len-place.result
       c.turns_before-turns.result others c.count-first.ensures (c.push_at.ensures.yes c.if-not-push_at.false) (same_sets after c.push_ids.new.ids)
       (search rules) pushed many
       (c.turns_before-turns.ensures.many c.if-turns-eq0.false) c.turns_before-turns.ensures.few

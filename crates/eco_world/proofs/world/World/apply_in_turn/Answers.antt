@@ -1,7 +1,6 @@
 use Rattle.eco_world.proofs.Common.{rules, ◌<◌, ◌≡◌, ◌+◌, ◌++◌, ◌∙◌, AreDone, ap, arith, length, length-take-le, subst, take}
 use Rattle.std.specs.Prelude.{◌^◌, drop}
 use Rattle.std.proofs.lemmas.List.{length-drop}
-use Rattle.eco_stages.proofs.InTurn.{in_turn-append, in_turn_counted}
 use Rattle.eco_stages.specs.Recorded.{in_turn}
 use Rattle.eco_world.proofs.Rewriting.{take_on}
 use Rattle.eco_world.proofs.world.World.apply_in_turn.Goals as goal
@@ -29,7 +28,7 @@ set_some_in_turn-done-requires g c =
                 more,
                 was.are_done.room,
                 was.within,
-                in_turn_counted c.args.ids.now 0 (take k sets),
+                c.sets_come_in_turn.ensures.counted c.args.ids.now 0 (take k sets),
                 length-take-le k sets was.within,
                 left,
                 c.requires.room,
@@ -55,7 +54,7 @@ loop-done-preserved g c =
     c.set_some_in_turn-done.ensures.done in
     let at : 0 + length (take k sets) ≡ k = omega (arith, length-take-le k sets was.within) in
     let split =
-    ap (in_turn ids 0) (take_on k n sets was.within) ∙ in_turn-append ids 0 (take k sets) (take n (drop k sets))
+    ap (in_turn ids 0) (take_on k n sets was.within) ∙ c.sets_come_in_turn.ensures.on ids 0 (take k sets) (take n (drop k sets))
     ∙ ap (λ m. in_turn ids 0 (take k sets) ++ in_turn ids m (take n (drop k sets))) at in
     record {
       within = omega (arith, was.within, c.set_some_in_turn-done.ensures.within, ap length c.sets_from-rest.ensures, length-drop k sets);

@@ -2,10 +2,9 @@ use Rattle.eco_world.proofs.Common.{◌≡◌, ◌+◌, ◌++◌, ◌∷◌, [],
 use Rattle.eco_world.proofs.Common.{length-take-le, sym, take, ◌∙◌}
 use Rattle.std.specs.Prelude.{◌%◌}
 use Rattle.eco_ids.specs.Run.{Set}
-use Rattle.eco_ids.specs.World.{padded}
 use Rattle.eco_ids.specs.declared.entity.TheConstants.{CHILD_OF}
-use Rattle.eco_stages.proofs.InTurn.{in_turn_counted, in_turn_more, whose}
-use Rattle.eco_stages.specs.Recorded.{id_in_turn, in_turn}
+use Rattle.std.proofs.lemmas.Option.{slice_get_read}
+use Rattle.eco_stages.specs.Recorded.{in_turn}
 use Rattle.eco_world.proofs.Common.{refl}
 use Rattle.eco_world.proofs.world.World.rewrite_in_turn.Goals as goal
 
@@ -20,7 +19,7 @@ push-requires g c =
       c.commands_are_done_in_turn.ensures.counted c.args.self.now c.loop-k.self cs c.args.outcomes.now c.loop-k.outcomes was,
       was.room,
       c.loop-k-test.true,
-      in_turn_counted c.args.ids.now c.args.first (take k sets),
+      c.sets_come_in_turn.ensures.counted c.args.ids.now c.args.first (take k sets),
       length-take-le k sets c.loop-k.auto.k-end,
       c.requires.room,
     )
@@ -40,12 +39,11 @@ loop-k-preserved g c =
     let set = c.index-sets-k.result in
     let i = c.id_at-id.result in
     let new = c.rewrite.new.self in
-    let is : id_in_turn ids n ≡ i = whose ids n c.loop-k.turn i c.loop-k.invariant.turn c.id_at-id.ensures in
+    let read = slice_get_read sets (length sets) k set refl c.loop-k-test.true c.index-sets-k.is in
     let one = laws.one c.loop-k.self new (Set set.0 i c.of-value.result) (Ok tt) c.loop-k.outcomes c.push.new.self c.push.ensures.written
     c.push.ensures.room (c.if-not-rewrite.ensures.met refl) in
     let more =
-    in_turn_more ids c.args.first k sets set c.loop-k-test.true c.index-sets-k.is
-    ∙ ap (λ j. in_turn ids c.args.first (take k sets) ++ Set set.0 j (padded set.1) ∷ []) is
+    c.sets_come_in_turn.ensures.more ids c.args.first k c.loop-k.turn sets set i read c.loop-k.invariant.turn c.id_at-id.ensures
     ∙ ap (λ v. in_turn ids c.args.first (take k sets) ++ Set set.0 i v ∷ []) (sym c.of-value.ensures) in
     let on : n + 1 ≡ c.args.first + (k + 1) = omega arith in
     record {

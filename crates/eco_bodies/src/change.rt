@@ -64,7 +64,7 @@ fn set_id(
     put_command(stage, Command::Set(entity, id, value))
 }
 
-// Records that an entry is set to a value, where it is there and matches one of the patterns. Apart, as `add_up_apart` is.
+// Records that an entry is set to a value, where it is there and matches one of the patterns. Apart, as `add_up` is.
 #[inline(never)]
 fn set_entry<R: BodyRow>(
     writes: &[Pattern],
@@ -86,9 +86,11 @@ fn set_entry<R: BodyRow>(
 #[cold]
 fn cold_path() {}
 
-// Records that the entry of a slot is set to the sum of its value and another's, where there are both. Most rows have both.
-#[inline(always)]
-pub(crate) fn add_up<R: BodyRow>(
+// Records that the entry of a slot is set to the sum of its value and another's, where there are both. Most rows have both. Apart:
+// what a stage does with a command that has a value is long, and written out in loops over rows once more for each width of a sum
+// it took the greater part of what a program takes to be translated.
+#[inline(never)]
+fn add_up<R: BodyRow>(
     writes: &[Pattern],
     row: &R,
     into: usize,
@@ -108,23 +110,6 @@ pub(crate) fn add_up<R: BodyRow>(
         return Ok(());
     }
     row.set_sum(into, from, id, stage)
-}
-
-// The same, apart: what a stage does with a command that has a value is long, and written out in loops over rows once more for
-// each width of a sum it took the greater part of what a program takes to be translated.
-#[inline(never)]
-fn add_up_apart<R: BodyRow>(
-    writes: &[Pattern],
-    row: &R,
-    into: usize,
-    from: usize,
-    stage: &mut Stage,
-) -> Result<(), AllocError>
-    ensures ok { OnOk result (stage.new ≡ stage.old ++ option_to_list (set_of writes.now
-        (R.row_of row.now).entity (item_at (R.row_of row.now).entries into)
-        (sum_at (R.row_of row.now) into from))) }
-{
-    add_up(writes, row, into, from, stage)
 }
 
 // Records that an id is set to the sum of the values in two slots, where there are both. Apart, as the function before.
@@ -208,7 +193,7 @@ fn record_change<R: BodyRow>(
         Action::Put { slot, value } => set_entry(writes, row, *slot, value, stage),
         Action::Sum { into, from } => match entry_at(row, *into) {
             Some(id) if known => set_sum_apart(row, *into, *from, id, stage),
-            _ => add_up_apart(writes, row, *into, *from, stage),
+            _ => add_up(writes, row, *into, *from, stage),
         },
         Action::Kill => put_command(stage, Command::Delete(row.entity())),
         Action::Spawn(_) => Ok(()),

@@ -12,7 +12,7 @@ ghost use Rattle.eco_bodies.specs.Settling.{script_settled};
 
 use crate::action::{Action, first_refusal, some_kills};
 use crate::body::SystemBody;
-use crate::change::{add_up, add_up_all, fit_all, record_action};
+use crate::change::{add_up_all, fit_all, record_action};
 use crate::row::BodyRow;
 use crate::rows::BodyRows;
 use crate::writes::script_writes;
@@ -67,35 +67,6 @@ fn record_in_turn<R: BodyRow, D: Draws>(
         record_action(writes, action, known, row, draws, stage)?;
     }
     Ok(())
-}
-
-// Records the actions for a row, in their order. Many scripts are one sum, which asks less where it is known to be one. Any other
-// action is recorded by the loop alone: written out once more for a script of one, it would double a large function, whose
-// translation takes time by the square of its size.
-#[inline(always)]
-fn record_actions<R: BodyRow, D: Draws>(
-    writes: &[Pattern],
-    actions: &[Action],
-    row: &R,
-    draws: &mut D,
-    stage: &mut Stage,
-) -> Result<(), Refusal>
-    requires { D.is_dry draws.old ≡ false }
-    ensures rest { D.rest draws.new ≡ D.rest draws.old }
-    ensures wet { IfOk result (λ _. D.is_dry draws.new ≡ false) }
-    ensures ok { IfOk result (λ _. OneTook (script_commands writes.now actions.now) (script_taken actions.now)
-        (R.row_of row.now) (D.so_far draws.old) (D.so_far draws.new) stage.old stage.new) }
-    ensures why { IfErr result (λ why. why ≡ stopped_by (D.is_dry draws.new)) }
-    ensures err { IfErr result (λ _. Broke (script_taken actions.now (R.row_of row.now))
-        (D.so_far draws.old) (D.so_far draws.new) (D.is_dry draws.new)) }
-{
-    match actions {
-        [Action::Sum { into, from }] => {
-            add_up(writes, row, *into, *from, stage)?;
-            Ok(())
-        }
-        _ => record_in_turn(writes, actions, false, row, draws, stage),
-    }
 }
 
 // Records the actions for each of some rows, one row after another.
@@ -208,7 +179,7 @@ impl SystemBody for Script {
         draws: &mut D,
         stage: &mut Stage,
     ) -> Result<(), Refusal> {
-        record_actions(&self.writes, &self.actions, row, draws, stage)
+        record_in_turn(&self.writes, &self.actions, false, row, draws, stage)
     }
 
     #[inline]

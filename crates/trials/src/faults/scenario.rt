@@ -1,7 +1,7 @@
 //! The calls that are made, each on a world of its own. Who is made there has the next index: the first has 9, and in a world of
 //! the second edition 10.
-use crate::deed::Deed;
-use crate::order::Order;
+use crate::faults::deed::Deed;
+use crate::faults::order::Order;
 use eco_ids::Edition;
 use eco_ids::entity::{CHILD_OF, SYMMETRIC, WITH};
 
@@ -168,8 +168,8 @@ const HOLDERS: &[Deed] = &[
     Deed::Keep("V, !(Likes, _)"),
 ];
 
-/// All of them, in the order of their lines.
-pub const SCENARIOS: &[Scenario] = &[
+// All of them, in the order of their lines.
+const SCENARIOS: &[Scenario] = &[
     // Leads to a new type, by way of With, where two queries are kept.
     Scenario {
         name: "add",
@@ -287,3 +287,9 @@ pub const SCENARIOS: &[Scenario] = &[
         call: Call::MergeShared,
     },
 ];
+
+/// All of them, in the order of their lines. Only here is the constant named: it is proved anew, with all that it holds, in each
+/// function that names it.
+pub fn scenarios() -> &'static [Scenario] {
+    SCENARIOS
+}

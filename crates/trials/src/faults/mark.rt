@@ -1,5 +1,5 @@
 //! What is written of calls.
-use crate::lack::Lack;
+use crate::faults::lack::Lack;
 
 /// Writes that the call begins.
 pub fn begin_call<R: Eprint>(rt: &R) {

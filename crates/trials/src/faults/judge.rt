@@ -1,8 +1,8 @@
 //! What comes of a call on a world.
-use crate::mark::tell;
-use crate::order::NONE;
-use crate::scenario::Scenario;
-use crate::scene::Scene;
+use crate::faults::mark::tell;
+use crate::faults::order::NONE;
+use crate::faults::scenario::Scenario;
+use crate::faults::scene::Scene;
 use eco_ids::Refusal;
 use eco_world::World;
 use std::alloc::Global;

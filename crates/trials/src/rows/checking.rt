@@ -1,5 +1,5 @@
 //! What the checker says of a script.
-use crate::outcome::write_end;
+use crate::rows::outcome::write_end;
 use eco_checker::check_script;
 use eco_devices::Counted;
 use std::alloc::Global;

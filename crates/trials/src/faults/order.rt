@@ -1,5 +1,5 @@
 //! Twenty commands, which a merge does: `T` is #9.0, the component `U` #10.0, `Likes` #11.0, and two entities are #12.0 and #13.0.
-use crate::deed::{first, one, two};
+use crate::faults::deed::{first, one, two};
 use eco_bodies::record_command;
 use eco_ids::entity::CHILD_OF;
 use eco_ids::{Entity, Refusal, Value};

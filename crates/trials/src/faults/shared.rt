@@ -1,12 +1,12 @@
 //! The calls of a shared world.
 ghost use Rattle.std.specs.Prelude.{◌≡◌};
 
-use crate::dump::push_world;
-use crate::lack::{Lack, NOTHING, conclude, push_merge};
-use crate::mark::{begin_call, end_call, tell};
-use crate::order::{BEFORE, NONE, record_all};
-use crate::scenario::{Call, Scenario};
-use crate::scene::{ADMITTED, ROOM, Scene};
+use crate::faults::dump::push_world;
+use crate::faults::lack::{Lack, NOTHING, conclude, push_merge};
+use crate::faults::mark::{begin_call, end_call, tell};
+use crate::faults::order::{BEFORE, NONE, record_all};
+use crate::faults::scenario::{Call, Scenario};
+use crate::faults::scene::{ADMITTED, ROOM, Scene};
 use eco_ids::Refusal;
 use eco_shared::{Blank, Merger, Naming, Registry, Viewer, open};
 use eco_world::{Stage, World};

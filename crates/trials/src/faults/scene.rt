@@ -1,11 +1,11 @@
 //! A world, and what a call on it takes.
-use crate::deed::{first, make_all};
-use crate::dump::{push, push_debug, push_rows, push_world};
-use crate::lack::{Lack, NOTHING, conclude, push_merge, push_run, push_stop};
-use crate::mark::{begin_call, end_call};
-use crate::order::{Marks, NONE, ORDERS, arm_one, record_all, record_one};
-use crate::scenario::{Call, Scenario};
-use crate::systems::{SYSTEMS, declare_first};
+use crate::faults::deed::{first, make_all};
+use crate::faults::dump::{push, push_debug, push_rows, push_world};
+use crate::faults::lack::{Lack, NOTHING, conclude, push_merge, push_run, push_stop};
+use crate::faults::mark::{begin_call, end_call};
+use crate::faults::order::{Marks, NONE, ORDERS, arm_one, record_all, record_one};
+use crate::faults::scenario::{Call, Scenario};
+use crate::faults::systems::{SYSTEMS, declare_first};
 use eco_bodies::{Script, Systems};
 use eco_frame::{Pipeline, run_frame};
 use eco_ids::entity::{ON_DELETE, REMOVE};

@@ -1,6 +1,6 @@
 //! What was refused for want of memory.
-use crate::dump::push;
-use crate::order::{Marks, NONE};
+use crate::faults::dump::push;
+use crate::faults::order::{Marks, NONE};
 use eco_frame::{FrameReport, FrameStop};
 use eco_ids::Refusal;
 use eco_world::Report;

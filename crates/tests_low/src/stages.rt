@@ -42,12 +42,14 @@ fn is_set(there: Option<(Entity, Value)>, set: (Entity, Value)) -> bool {
 // Whether the commands set these, in this order, by one run of values of a width.
 fn are_run(stage: &Stage, run: usize, id: Id, width: Width, sets: &[(Entity, Value)]) -> bool {
     let (commands, kept) = stage.recorded();
-    let Some(Recorded::Set {
-        width: own,
-        count,
-        id: other,
-        first,
-    }) = commands.get(run).copied()
+    let Some(
+        Recorded::Set {
+            width: own,
+            count,
+            id: other,
+            first,
+        },
+    ) = commands.get(run).copied()
     else {
         return false;
     };

@@ -2,7 +2,7 @@
 use Rattle.eco_traits.proofs.Common.{◌≡◌, ◌||◌, ◌↔◌, inl, inr, List, [], ◌∷◌, refl, sym, ap, ◌∙◌, subst, true≢false, IsTrue}
 use Rattle.eco_traits.proofs.Common.{Entity, WITH, Id, One, Two, root, next, id_cmp, id_eq, entity_cmp, entity_eq, has_item, is_ascending, IsClosure, Brings}
 use Rattle.eco_traits.proofs.Common.{InClosure, Reaches, WorldState, has, head_of, with_head, with_heads, or_left, same_id, or_parts, or_right, id_eq_is}
-use Rattle.eco_traits.proofs.Common.{id_eq_itself, entity_eq_is, entity_eq_itself}
+use Rattle.eco_traits.proofs.Common.{id_eq_itself, entity_eq_is, entity_eq_itself, HasSameIds, IfOk, IsReach, Result, Ok, Err}
 use Rattle.eco_traits.proofs.Members.{only}
 
 -- ---- the id with many heads
@@ -17,7 +17,7 @@ has_head i (y ∷ ys) x h =
       | inr k ↦ or_right _ _ (has_head i ys x k)
     ]
 
-head_of_item : (i : Id) (heads : List Entity) (j : Id) → IsTrue (has_item id_cmp (with_heads i heads) j)
+pub head_of_item : (i : Id) (heads : List Entity) (j : Id) → IsTrue (has_item id_cmp (with_heads i heads) j)
     → (x : Entity) × IsTrue (has_item entity_cmp heads x) × (with_head i x ≡ j)
 head_of_item i [] j h = absurd (true≢false (sym h))
 head_of_item i (y ∷ ys) j h =
@@ -84,3 +84,15 @@ closure_alone w i none = record {
         or_left _ _ (subst (λ k. IsTrue (id_eq i k)) (sym is) (id_eq_itself i)),
   );
 }
+
+-- ---- all that a walk leads to
+
+pub closure_of_walk : {E : Type 0} (w : WorldState) (i : Id) (head : Entity) (reached heads : List Entity) (r : Result (List Id) E) → head ≡ head_of i
+    → heads ≡ reached → IsReach w WITH head reached → IfOk r (λ s. HasSameIds s (with_heads i heads)) → IfOk r (λ s. IsTrue (is_ascending id_cmp s))
+    → IfOk r (λ s. IsClosure w i s)
+closure_of_walk w i head reached heads (Ok s) is same all members up =
+    closure_of_heads w i heads s (λ x. (
+      λ h. subst (λ e. Reaches w WITH e x) is ((all x).0 (subst (λ xs. IsTrue (has_item entity_cmp xs x)) same h)),
+      λ h. subst (λ xs. IsTrue (has_item entity_cmp xs x)) (sym same) ((all x).1 (subst (λ e. Reaches w WITH e x) (sym is) h)),
+    )) members up
+closure_of_walk w i head reached heads (Err e) is same all members up = tt

@@ -6,7 +6,8 @@ use Rattle.eco_traits.proofs.Common.{same_members, joins_with, Edition, Entity, 
 use Rattle.eco_traits.proofs.Common.{has_item, is_ascending, with_item, has_symmetric, late_traits, IsClosure, Judges, grown, is_late}
 use Rattle.eco_traits.proofs.Common.{is_pair_of, is_replaced, is_used, is_wrong_policy, WorldState, Record, has, is_exclusive, names_living, record_of}
 use Rattle.eco_traits.proofs.Common.{HasBrought, HasGiven, gives, head_of, target_by_pair, entity_eq_is, AddLeadsTo, BringFreely, ComesFreely, IsNoTrait}
-use Rattle.eco_traits.proofs.Common.{IsSound, LacksWith, take_more, type_of_entity}
+use Rattle.eco_traits.proofs.Common.{IsSound, LacksWith, take_more, type_of_entity, AreFreeHeads, AreNoTraits, HasSameIds, entity_cmp, same_entity, with_heads}
+use Rattle.eco_traits.proofs.Closures.{closure_of_heads, head_of_item}
 use Rattle.eco_ids.specs.declared.edition.Edition.TheVariants.{First, Second}
 use Rattle.eco_ids.proofs.Clashes.{quiet_grows}
 use Rattle.eco_traits.proofs.Flat.{flat_closure, given_more, gives_target, is_by, put_ascends, put_by, put_joins}
@@ -103,52 +104,27 @@ is_single : Id → Bool
 is_single (One c) = true
 is_single (Two r t) = false
 
-module _ (w : WorldState) (e c : Entity) (traits : List Id) (are : Some traits ≡ type_of_entity w c) (free : ComesFreely w c traits) where
-  closure : List Id
-  closure = put_each (One c) (One c ∷ []) traits
+-- a single id and no trait
+abbrev IsFree : WorldState → Id → Type 0
+IsFree w j = (x : Entity) × (j ≡ One x) × IsNoTrait w.edition x
 
-  closure_has : HasGiven closure (One c) traits
-  unfolding closure put_each
-  closure_has j = each_joins (One c) (One c ∷ []) traits j ∙ ap (λ b. b || list_any (gives (One c) j) traits) (or-false (id_eq (One c) j))
+-- ---- a closure all of whose ids are single ones and no traits
 
-  closed : IsClosure w (One c) closure
-  unfolding closure put_each
-  closed = flat_closure w (One c) traits are (λ x h. (free.1 x h).1) closure closure_has (each_ascends (One c) (One c ∷ []) traits refl)
-
-  abbrev IsFree : Id → Type 0
-  IsFree j = (x : Entity) × (j ≡ One x) × IsNoTrait w.edition x
-
-  -- a member is a single id and no trait
-  member_is : (j : Id) → IsTrue (has_item id_cmp closure j) → IsFree j
-  member_is j h =
-      elim (or_parts (id_eq (One c) j) _ (sym (closure_has j) ∙ h)) as (λ _. IsFree j) [
-        | inl k ↦ (c, sym (id_eq_is (One c) j k), free.0)
-        | inr k ↦ let m = any_is (gives (One c) j) traits k in from_pair m.0 m.1 (m.2 (λ y. id_eq y m.0) (id_eq_itself m.0))
-      ]
-    where
-      from_pair : (pair : Id) → IsTrue (gives (One c) j pair) → IsTrue (has_item id_cmp traits pair) → IsFree j
-      from_pair (One x) g there = absurd (true≢false (sym g))
-      from_pair (Two r x) g there =
-          let is : r ≡ WITH = entity_eq_is r WITH (first_of (entity_eq r WITH) _ g) in
-          (x, sym (id_eq_is (One x) j (second (entity_eq r WITH) _ g)), (free.1 x (subst (λ q. IsTrue (has_item id_cmp traits (Two q x))) is there)).0)
-        where
-          first_of : (a b : Bool) → IsTrue (a && b) → IsTrue a
-          first_of true b h = refl
-          first_of false b h = h
-
+module _ (w : WorldState) (e c : Entity) (closure : List Id) (closed : IsClosure w (One c) closure) (free : (j : Id) → IsTrue (has_item id_cmp closure j)
+    → IsFree w j) where
   none_of : (p : Id → Bool) → ((x : Entity) → p (One x) ≡ false) → list_any p closure ≡ false
   none_of p none = not_so (list_any p closure) (λ h.
       let m = any_is p closure h in
-      let x = member_is m.0 (m.2 (λ y. id_eq y m.0) (id_eq_itself m.0)) in
+      let x = free m.0 (m.2 (λ y. id_eq y m.0) (id_eq_itself m.0)) in
       true≢false (sym (subst (λ j. IsTrue (p j)) x.1 m.1) ∙ none x.0))
 
   no_single : (x : Entity) → (IsNoTrait w.edition x → ⊥) → has_item id_cmp closure (One x) ≡ false
   no_single x trait = not_so (has_item id_cmp closure (One x)) (λ h.
-      let m = member_is (One x) h in trait (subst (IsNoTrait w.edition) (sym (ap head_of m.1)) m.2))
+      let m = free (One x) h in trait (subst (IsNoTrait w.edition) (sym (ap head_of m.1)) m.2))
 
   no_pair : (r t : Entity) → has_item id_cmp closure (Two r t) ≡ false
   unfolding is_single
-  no_pair r t = not_so (has_item id_cmp closure (Two r t)) (λ h. let m = member_is (Two r t) h in true≢false (sym (ap is_single m.1)))
+  no_pair r t = not_so (has_item id_cmp closure (Two r t)) (λ h. let m = free (Two r t) h in true≢false (sym (ap is_single m.1)))
 
   no_exclusive : has_item id_cmp closure (One EXCLUSIVE) ≡ false
   no_exclusive = no_single EXCLUSIVE (λ n. true≢false (sym (entity_eq_itself EXCLUSIVE) ∙ n.0))
@@ -203,11 +179,49 @@ module _ (w : WorldState) (e c : Entity) (traits : List Id) (are : Some traits �
       ap (λ ys. x ∷ ys) (all_stay xs) ∙ sym (ap (λ b. cond (not b) (x ∷ rest) rest) (stays x))
 
   -- so the type has what was there, and the closure
+  pub free_leads_to : (own all : List Id) → names_living w (One c) ≡ true → has w e (One c) ≡ false → IsSound w → Some own ≡ type_of_entity w e
+      → IsTrue (is_ascending id_cmp own) → all ≡ fold (with_item id_cmp) own closure → AddLeadsTo w e (One c) (Ok all)
+  free_leads_to own all lives absent sound owns up is =
+      let d = some_record (record_of w e) own owns in
+      leads_to w e (One c) closure own own all None lives absent closed (judged d.0 d.1 lives sound) refl owns up (all_stay own) is
+
+-- ---- where what an id brings brings nothing more
+
+module _ (w : WorldState) (e c : Entity) (traits : List Id) (are : Some traits ≡ type_of_entity w c) (free : ComesFreely w c traits) where
+  closure : List Id
+  closure = put_each (One c) (One c ∷ []) traits
+
+  closure_has : HasGiven closure (One c) traits
+  unfolding closure put_each
+  closure_has j = each_joins (One c) (One c ∷ []) traits j ∙ ap (λ b. b || list_any (gives (One c) j) traits) (or-false (id_eq (One c) j))
+
+  closed : IsClosure w (One c) closure
+  unfolding closure put_each
+  closed = flat_closure w (One c) traits are (λ x h. (free.1 x h).1) closure closure_has (each_ascends (One c) (One c ∷ []) traits refl)
+
+  -- a member is a single id and no trait
+  member_is : (j : Id) → IsTrue (has_item id_cmp closure j) → IsFree w j
+  member_is j h =
+      elim (or_parts (id_eq (One c) j) _ (sym (closure_has j) ∙ h)) as (λ _. IsFree w j) [
+        | inl k ↦ (c, sym (id_eq_is (One c) j k), free.0)
+        | inr k ↦ let m = any_is (gives (One c) j) traits k in from_pair m.0 m.1 (m.2 (λ y. id_eq y m.0) (id_eq_itself m.0))
+      ]
+    where
+      from_pair : (pair : Id) → IsTrue (gives (One c) j pair) → IsTrue (has_item id_cmp traits pair) → IsFree w j
+      from_pair (One x) g there = absurd (true≢false (sym g))
+      from_pair (Two r x) g there =
+          let is : r ≡ WITH = entity_eq_is r WITH (first_of (entity_eq r WITH) _ g) in
+          (x, sym (id_eq_is (One x) j (second (entity_eq r WITH) _ g)), (free.1 x (subst (λ q. IsTrue (has_item id_cmp traits (Two q x))) is there)).0)
+        where
+          first_of : (a b : Bool) → IsTrue (a && b) → IsTrue a
+          first_of true b h = refl
+          first_of false b h = h
+
+  -- so the type has what was there, and what comes
   pub freely_leads_to : (own all : List Id) → names_living w (One c) ≡ true → has w e (One c) ≡ false → IsSound w → Some own ≡ type_of_entity w e
       → IsTrue (is_ascending id_cmp own) → HasBrought all own c traits → IsTrue (is_ascending id_cmp all) → AddLeadsTo w e (One c) (Ok all)
   freely_leads_to own all lives absent sound owns up has_all all_up =
-      let d = some_record (record_of w e) own owns in
-      leads_to w e (One c) closure own own all None lives absent closed (judged d.0 d.1 lives sound) refl owns up (all_stay own)
+      free_leads_to w e c closure closed member_is own all lives absent sound owns up
       (same_members id_cmp_total same_id all (fold (with_item id_cmp) own closure) all_up (all_ascend own closure up)
       (λ j. (λ h. sym (same j) ∙ h, λ h. same j ∙ h)))
     where
@@ -215,3 +229,29 @@ module _ (w : WorldState) (e c : Entity) (traits : List Id) (are : Some traits �
       same j =
           has_all j ∙ or_comm (has_item id_cmp own j) (id_eq (One c) j || list_any (gives (One c) j) traits)
           ∙ ap (λ b. b || has_item id_cmp own j) (sym (closure_has j)) ∙ sym (all_join own closure j)
+
+-- ---- where all heads are known
+
+-- none of the entities so far is a trait, and neither is one more
+pub no_traits_more : (d : Edition) (entities : List Entity) (k : ℕ) (x : Entity) → k < length entities → AreNoTraits d (take k entities)
+    → IsNoTrait d (get_or entities k x) → AreNoTraits d (take (k + 1) entities)
+no_traits_more d entities k x l before here = λ y h.
+    elim (or_parts (has_item entity_cmp (take k entities) y) (has_item entity_cmp (get_or entities k x ∷ []) y)
+    (sym (has_append entity_cmp (take k entities) (get_or entities k x ∷ []) y)
+    ∙ subst (λ xs. IsTrue (has_item entity_cmp xs y)) (take_more entities k x l) h)) as (λ _. IsNoTrait d y) [
+      | inl m ↦ before y m
+      | inr m ↦ subst (IsNoTrait d) (only same_entity (get_or entities k x) y m) here
+    ]
+
+pub no_trait_at : (d : Edition) (entities : List Entity) (k : ℕ) (x : Entity) → k < length entities → AreNoTraits d entities
+    → IsNoTrait d (get_or entities k x)
+no_trait_at d entities k x l all =
+    let y = get_or entities k x in all y (list_any_at (λ z. entity_eq z y) entities k x l (entity_eq_itself y))
+
+pub heads_lead_to : (w : WorldState) (e c : Entity) (heads : List Entity) → AreFreeHeads w c heads → (coming own all : List Id)
+    → HasSameIds coming (with_heads (One c) heads) → IsTrue (is_ascending id_cmp coming) → names_living w (One c) ≡ true → has w e (One c) ≡ false
+    → IsSound w → Some own ≡ type_of_entity w e → IsTrue (is_ascending id_cmp own) → all ≡ fold (with_item id_cmp) own coming
+    → AddLeadsTo w e (One c) (Ok all)
+heads_lead_to w e c heads are coming own all same coming_up lives absent sound owns up is =
+    free_leads_to w e c coming (closure_of_heads w (One c) heads coming are.0 same coming_up)
+    (λ j h. let m = head_of_item (One c) heads j (sym (same j) ∙ h) in (m.0, sym m.2, are.1 m.0 m.1)) own all lives absent sound owns up is

@@ -5,6 +5,7 @@ pub mod Freely
 pub mod Joined
 pub mod Known
 pub mod Members
+pub mod Noted
 pub mod Plain
 pub mod Replaced
 pub mod Rows

@@ -29,7 +29,7 @@ has_nothing w e i h = has_of_none (record_of w e) i h
 
 -- ---- the targets of its pairs
 
-pair_test : (r b : Entity) (i : Id) → has_item entity_cmp (option_to_list (target_by_pair r i)) b ≡ id_eq i (Two r b)
+pub pair_test : (r b : Entity) (i : Id) → has_item entity_cmp (option_to_list (target_by_pair r i)) b ≡ id_eq i (Two r b)
 pair_test r b (One e) = refl
 pair_test r b (Two q t) = grind (arith, common_steps, is_eq, or-false)
 

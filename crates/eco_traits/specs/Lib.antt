@@ -1,4 +1,5 @@
 pub mod Closure
 pub mod Known
 pub mod Target
+pub mod Walk
 pub mod Prospect

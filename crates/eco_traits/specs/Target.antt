@@ -79,6 +79,14 @@ BringFreely w ids = (x : Entity) → IsTrue (has_item id_cmp ids (Two WITH x)) �
 abbrev pub ComesFreely : WorldState → Entity → List Id → Type 0
 ComesFreely w c ids = IsNoTrait w.edition c × BringFreely w ids
 
+-- none of the entities is such a trait
+abbrev pub AreNoTraits : Edition → List Entity → Type 0
+AreNoTraits edition entities = (x : Entity) → IsTrue (has_item entity_cmp entities x) → IsNoTrait edition x
+
+-- the entities are all that c brings along, however far, and c, and none is such a trait
+abbrev pub AreFreeHeads : WorldState → Entity → List Entity → Type 0
+AreFreeHeads w c heads = IsReach w WITH c heads × AreNoTraits w.edition heads
+
 -- an id that brings nothing along, replaces nothing and has no mirror, and nothing stands against it, where its entity or its
 -- relationship has these ids: a single id that is no trait which may come too late, or a pair of a relationship that is
 -- neither exclusive nor acyclic nor symmetric, and no wrong cleanup pair; where relationships may be symmetric, no pair of

@@ -1,18 +1,19 @@
 //! A single id that comes with what it brings along.
-ghost use Rattle.std.specs.Prelude.{◌≡◌, ◌↔◌, fold, IfOk, IsTrue, OnOk};
+ghost use Rattle.std.specs.Prelude.{◌≡◌, ◌↔◌, fold, IfOk, IfSome, IsTrue, OnOk};
 ghost use Rattle.eco_ids.specs.declared.entity.Entity.{Entity as EntityData};
 ghost use Rattle.eco_ids.specs.declared.entity.TheConstants.{WITH as WITH_DATA};
 ghost use Rattle.eco_ids.specs.declared.id.Id.TheVariants.{Two};
 ghost use Rattle.eco_ids.specs.Order.{id_cmp, is_ascending, with_item};
 ghost use Rattle.eco_traits.specs.Closure.{HasBrought, LacksWith};
-ghost use Rattle.eco_traits.specs.Target.{BringFreely, ComesFreely, IsNoTrait};
+ghost use Rattle.eco_traits.specs.Target.{AreFreeHeads, AreNoTraits, BringFreely, ComesFreely, IsNoTrait};
 
+use crate::few::{FewReached, few_reached};
 use crate::holdings::Holdings;
 use crate::implied::has_with;
 use crate::prospect::is_no_trait;
 use crate::walk::target_by;
 use eco_ids::entity::WITH;
-use eco_ids::{Entity, FEW_IDS, Id, TypeList};
+use eco_ids::{Edition, Entity, FEW_IDS, Id, TypeList};
 use std::alloc::{AllocError, Global};
 
 /// Whether a single id and what it brings come to any entity, whatever that has, where these are the ids of its own: none of
@@ -47,6 +48,32 @@ fn brings_freely<H: Holdings>(holdings: &H, id: Id) -> bool
         Some(target) => is_no_trait(holdings.edition(), target) && !has_with(holdings, target),
         None => true,
     }
+}
+
+/// A single entity and all that it brings along, however far, where none of it is a trait that may come too late: so it comes
+/// to any entity, whatever that has.
+///
+/// No answer where one is such a trait, or where they are more than a short walk leads to ([`few_reached`]).
+pub(crate) fn free_heads<H: Holdings>(holdings: &H, single: Entity) -> Option<FewReached>
+    ensures { IfSome result (AreFreeHeads (H.world holdings.now) single) }
+{
+    let heads = few_reached(holdings, WITH, single)?;
+    if !are_no_traits(holdings.edition(), heads.as_slice()) {
+        return None;
+    }
+    Some(heads)
+}
+
+// Whether none of the entities is a trait that may come too late.
+fn are_no_traits(edition: Edition, entities: &[Entity]) -> bool
+    ensures { IsTrue result ↔ AreNoTraits edition entities.now }
+{
+    for entity in entities {
+        if !is_no_trait(edition, *entity) {
+            return false;
+        }
+    }
+    true
 }
 
 /// The ids, the single one, and the target of each pair of With among its own.

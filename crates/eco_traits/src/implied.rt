@@ -12,6 +12,7 @@ ghost use Rattle.eco_traits.specs.Closure as spec;
 ghost use Rattle.eco_ids.specs.Mirrors.{is_with};
 ghost use Rattle.eco_traits.specs.Target.{type_of_entity};
 
+use crate::few::few_reached;
 use crate::holdings::Holdings;
 use crate::walk::{reached, target_by};
 use eco_ids::entity::WITH;
@@ -48,10 +49,21 @@ pub(crate) fn closure_by<H: Holdings>(
     ensures alone { spec.LacksWith (H.world holdings.now) (spec.head_of id) → IsOk result }
 {
     if bring_more(holdings, traits) {
-        let heads = reached(alloc, holdings, WITH, head_of(id))?;
-        return with_heads(alloc, id, heads.as_slice());
+        return walked(alloc, holdings, id);
     }
     with_targets(alloc, id, traits)
+}
+
+// The closure of an id by a walk of pairs of With, which wants memory of its own only where it leads far.
+fn walked<H: Holdings>(alloc: Global, holdings: &H, id: Id) -> Result<TypeList, AllocError>
+    ensures { IfOk result (λ ids. IsClosure (H.world holdings.now) id ids) }
+{
+    let head = head_of(id);
+    if let Some(few) = few_reached(holdings, WITH, head) {
+        return with_heads(alloc, id, few.as_slice());
+    }
+    let heads = reached(alloc, holdings, WITH, head)?;
+    with_heads(alloc, id, heads.as_slice())
 }
 
 // Whether the target of a pair of With among the ids has such a pair itself.
@@ -117,8 +129,8 @@ pub(crate) fn brings_any(ids: &TypeList) -> bool
     any_with(ids.as_slice())
 }
 
-// The id with each of the heads in the place of its own.
-fn with_heads(alloc: Global, id: Id, heads: &[Entity]) -> Result<TypeList, AllocError>
+/// The id with each of the heads in the place of its own.
+pub(crate) fn with_heads(alloc: Global, id: Id, heads: &[Entity]) -> Result<TypeList, AllocError>
     ensures members { IfOk result (λ ids. spec.HasSameIds ids (spec.with_heads id heads.now)) }
     ensures ascending { IfOk result (λ ids. IsTrue (is_ascending id_cmp ids)) }
 {

@@ -3,6 +3,7 @@
 #![tactic(auto)]
 
 mod brought;
+mod few;
 mod holdings;
 mod implied;
 mod pair_traits;

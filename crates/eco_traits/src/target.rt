@@ -13,9 +13,9 @@ ghost use Rattle.eco_ids.specs.Traits.{Reaches};
 ghost use Rattle.eco_traits.specs.Target.{FindsTarget, FindsType, is_own_type, IsAmong, IsSound, TakesOwn, Replaces};
 ghost use Rattle.eco_traits.specs.Target.{extended_by, left_by, target_by, without_replaced, ties, type_of_entity};
 
-use crate::brought::{comes_freely, put_all, with_brought};
+use crate::brought::{comes_freely, free_heads, put_all, with_brought};
 use crate::holdings::Holdings;
-use crate::implied::{closure_by, head_of};
+use crate::implied::{closure_by, head_of, with_heads};
 use crate::pair_traits::PairTraits;
 use crate::prospect::{Prospect, foresee};
 use crate::verdict::{is_among, is_wrong_policy, verdict};
@@ -167,6 +167,10 @@ fn single_type<H: Holdings>(
 {
     if comes_freely(holdings, single, traits.as_slice()) {
         return Ok(with_brought(alloc, own, single, traits.as_slice())?);
+    }
+    if let Some(heads) = free_heads(holdings, single) {
+        let coming = with_heads(alloc, Id::One(single), heads.as_slice())?;
+        return Ok(joined(own, coming)?);
     }
     judged_type(alloc, holdings, entity, own, Id::One(single), traits)
 }
@@ -346,7 +350,8 @@ fn is_replaced<H: Holdings>(holdings: &H, coming: &[Id], id: Id) -> bool
 
 // The ids, and those that come. Either way it is the same list, so the fewer are put among the others.
 fn joined(ids: &TypeList, coming: TypeList) -> Result<TypeList, AllocError>
-    ensures { IfOk result (λ all. all ≡ fold (with_item id_cmp) ids.now coming) }
+    ensures ids { IfOk result (λ all. all ≡ fold (with_item id_cmp) ids.now coming) }
+    ensures ascending { IsTrue (is_ascending id_cmp ids.now) }
 {
     let own = ids.as_slice();
     if own.len() < coming.as_slice().len() {

@@ -14,7 +14,7 @@ usage: ./run.sh SCRIPT [--workers N]     runs a script, and shows its lines
 A program that --build made is started if it is newer than the sources, specs and proofs of all that it stands on. Else
 a trial build is: it proves nothing, and is made once, in some three minutes, and again after a change of the sources.
 It is kept as crates/NAME/out/NAME-unproved, so that the next run starts at once. --build proves all crates that the
-programs stand on, which takes about an hour of processor time once, and after a change as long as what has changed.
+programs stand on, which takes one to two hours of processor time once, and after a change as long as what has changed.
 
 The status is that of the program (docs/FORMATS.md, docs/CHECKER.md, docs/VIEWER.md): 0 where the script was run, 1 where it was
 stopped, 2 where it is not read (its faults are shown then), 64 for bad arguments. N is 1 to 64. It is 127 where a

@@ -42,7 +42,6 @@ esac
 cd "$(dirname "$0")"
 command -v python3 >/dev/null || lack python3 python3
 command -v gcc >/dev/null || lack gcc "gcc and libc6-dev"
-command -v setsid >/dev/null || lack setsid util-linux
 [ "$prove" -eq 0 ] || command -v rt >/dev/null || {
     echo "test.sh: the command rt of the Rattle kit is not on the path" >&2
     exit 127

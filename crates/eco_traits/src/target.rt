@@ -168,6 +168,28 @@ fn single_type<H: Holdings>(
     if comes_freely(holdings, single, traits.as_slice()) {
         return Ok(with_brought(alloc, own, single, traits.as_slice())?);
     }
+    far_type(alloc, holdings, entity, own, single, traits)
+}
+
+// What `single_type` does where what the id brings may bring more, or something may stand against it. It stands apart, so that
+// the short way keeps no room for what it notes.
+#[cold]
+#[inline(never)]
+fn far_type<H: Holdings>(
+    alloc: Global,
+    holdings: &H,
+    entity: Entity,
+    own: &TypeList,
+    single: Entity,
+    traits: &TypeList,
+) -> Result<TypeList, Refusal>
+    requires lives { IsTrue (world.names_living (H.world holdings.now) (One single)) }
+    requires absent { IsFalse (world.has (H.world holdings.now) entity (One single)) }
+    requires sound { IsSound (H.world holdings.now) }
+    requires own { Some own.now ≡ type_of_entity (H.world holdings.now) entity }
+    requires traits { Some traits.now ≡ type_of_entity (H.world holdings.now) single }
+    ensures { FindsType (H.world holdings.now) entity (One single) result }
+{
     if let Some(heads) = free_heads(holdings, single) {
         let coming = with_heads(alloc, Id::One(single), heads.as_slice())?;
         return Ok(joined(own, coming)?);

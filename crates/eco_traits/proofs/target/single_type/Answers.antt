@@ -1,5 +1,5 @@
-use Rattle.eco_traits.proofs.Common.{subst, ComesFreely, HasBrought, HasSameIds, One, with_heads}
-use Rattle.eco_traits.proofs.Freely.{freely_leads_to, heads_lead_to}
+use Rattle.eco_traits.proofs.Common.{subst, ComesFreely, HasBrought}
+use Rattle.eco_traits.proofs.Freely.{freely_leads_to}
 use Rattle.eco_traits.proofs.target.single_type.Goals as goal
 
 pub returns-then-comes_freely : goal.returns-then-comes_freely
@@ -10,11 +10,3 @@ returns-then-comes_freely g c =
     c.args.own.now c.in_ok-with_brought.field-0 c.requires.lives c.requires.absent c.requires.sound c.requires.own c.with_brought.ensures.ascending
     (subst (HasBrought c.in_ok-with_brought.field-0 c.args.own.now c.args.single) c.as_slice-then-comes_freely.ensures.ids c.in_ok-with_brought.ensures.members)
     c.in_ok-with_brought.ensures.up
-
-pub returns-in-Some : goal.returns-in-Some
-returns-in-Some g c =
-    heads_lead_to (g.H.Holdings.world c.args.holdings.now) c.args.entity c.args.single c.in-Some.heads c.in-Some.ensures c.in_ok-coming.coming
-    c.args.own.now c.in_ok-joined.field-0
-    (subst (λ xs. HasSameIds c.in_ok-coming.coming (with_heads (One c.args.single) xs)) c.as_slice-in-Some.ensures c.in_ok-coming.ensures.members)
-    c.in_ok-coming.ensures.ascending c.requires.lives c.requires.absent c.requires.sound c.requires.own c.joined.ensures.ascending
-    c.in_ok-joined.ensures.ids

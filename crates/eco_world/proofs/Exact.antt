@@ -9,7 +9,11 @@ use Rattle.eco_world.proofs.Common.{WorldState, entities, held_by, with_entities
 use Rattle.eco_world.proofs.Common.{has_commands, Merges, RunsAdmitted, may_merge}
 use Rattle.eco_world.specs.declared.query_id.QueryId.{QueryId}
 use Rattle.eco_world.specs.Laws.{AddedQueriesAreFound, EmptyMergesWantNone, RefusedMergesChangeNothing, StandWhere, ValuesAreLent}
-use Rattle.eco_world.proofs.Layouts.{element_cases, here, no_element, there}
+use Rattle.eco_world.proofs.Common.{Contains-permutation, Entity, IsPermutation, IsPermutation-sym, has_item, id_cmp, map}
+use Rattle.eco_ids.specs.Layout.{IsLayout}
+use Rattle.eco_ids.specs.World.{is_alive}
+use Rattle.eco_world.proofs.Layouts.{element_cases, here, mapped_from, mapped_there, no_element, there}
+use Rattle.eco_world.specs.Columns.{HasValues, ListedColumn, ListsColumns, has_entities}
 
 -- ---- listings
 
@@ -53,6 +57,61 @@ lent_values w t i row e lends at v has =
     of_data : {o : Option Value} (b : Bool) → cond b o None ≡ Some v → o ≡ Some v
     of_data true h = h
     of_data false h = absurd (none-some v h)
+
+-- ---- columns
+
+somebody : (xs : List Entity) (e : Entity) → Contains xs e → IsTrue (nat_lt 0 (length xs))
+somebody xs e h = let within = h.1 in le-leb 1 (length xs) (omega (arith, within))
+
+pub columns_stand : (w : WorldState) (i : Id) (columns : List ListedColumn) → ListsColumns w i columns → (e : Entity)
+    → ((c : ListedColumn) × Contains columns c × Contains c.entities e)
+    ↔ (IsTrue (is_alive w e) × IsTrue (has_item id_cmp (map (λ p. p.0) (held_by w e)) i))
+columns_stand w i columns h e = (
+  λ stands.
+      let c = stands.0 in
+      let listed = mapped_there of_column used c (keeps has_entities columns c stands.1 (somebody c.entities e stands.2)) in
+      let t = mapped_from of_table having c.entities (Contains-permutation (map of_column used) (map of_table having) c.entities
+      (IsPermutation-sym (map of_table having) (map of_column used) same) listed) in
+      let at = kept has_it layout t.0 t.1 in
+      let lives = (is.exact e t.0 at.0).0 (subst (λ xs. Contains xs e) (sym t.2) stands.2) in
+      (lives.0, subst (λ ids. IsTrue (has_item id_cmp ids i)) lives.1 at.1),
+  λ lives.
+      let t = is.all e lives.0 in
+      let ids = ((is.exact e t.0 t.1).0 t.2).1 in
+      let listed = mapped_there of_table having t.0 (keeps has_it layout t.0 t.1 (subst (λ own. IsTrue (has_item id_cmp own i)) (sym ids) lives.1)) in
+      let c = mapped_from of_column used t.0.entities (Contains-permutation (map of_table having) (map of_column used) t.0.entities same listed) in
+      (c.0, (kept has_entities columns c.0 c.1).0, subst (λ xs. Contains xs e) (sym c.2) t.2),
+)
+  where
+    of_table : ListedTable → List Entity
+    of_table t = t.entities
+
+    of_column : ListedColumn → List Entity
+    of_column c = c.entities
+
+    layout : List ListedTable
+    layout = h.tables.0
+
+    is : IsLayout w layout
+    is = h.tables.1
+
+    has_it : ListedTable → Bool
+    has_it t = has_item id_cmp t.ids i
+
+    having : List ListedTable
+    having = filter has_it layout
+
+    used : List ListedColumn
+    used = filter has_entities columns
+
+    same : IsPermutation (map of_table having) (map of_column used)
+    same = h.tables.2
+
+pub columns_hold : (w : WorldState) (i : Id) (columns : List ListedColumn) → ListsColumns w i columns → (c : ListedColumn) → Contains columns c
+    → (row : ℕ) (e : Entity) → slice_get c.entities row ≡ Some e → slice_get c.values row ≡ Some (value_in (held_by w e) i)
+columns_hold w i columns h c there row e at =
+    ap (λ vs. slice_get vs row) (All-contains (HasValues w i) columns c h.values there)
+    ∙ slice_get-map (λ x. value_in (held_by w x) i) c.entities row ∙ ap (option_map (λ x. value_in (held_by w x) i)) at
 
 -- ---- queries that were added
 

@@ -13,13 +13,16 @@ use Rattle.eco_ids.specs.Data.{value_of}
 use Rattle.eco_ids.specs.Layout.{ListedTable}
 use Rattle.eco_ids.specs.Lawful.{IsLawful}
 use Rattle.eco_ids.specs.Matching.{pattern_matches}
+use Rattle.eco_ids.specs.Order.{has_item, id_cmp}
 use Rattle.eco_ids.specs.Run.{Command, Runs}
 use Rattle.eco_ids.specs.Terms.{QueryTerm}
 use Rattle.eco_ids.specs.World.{OnEntities, WorldState, held_by, is_alive}
 use Rattle.eco_stages.specs.Outcomes.{Outcomes}
+use Rattle.eco_tables.specs.Column.{value_in}
 use Rattle.eco_world.specs.declared.query_id.QueryId.{QueryId}
 use Rattle.eco_world.specs.declared.table_rows.TableRows.{TableRows}
 use Rattle.eco_world.specs.Cached.{AddsQuery, ListsFor, OfQuery, RefusesQuery, all_slots_hold}
+use Rattle.eco_world.specs.Columns.{ListedColumn, ListsColumns}
 use Rattle.eco_world.specs.Layouts.{LendsValues, ListsBy, ListsWith, lent_by}
 use Rattle.eco_world.specs.Merging.{Merges, may_merge}
 use Rattle.eco_world.specs.Queries.{may_query}
@@ -43,6 +46,14 @@ abbrev pub ValuesAreLent : Type 0
 ValuesAreLent =
     (w : WorldState) (t : TableRows) (i : Id) (row : ℕ) (e : Entity) → LendsValues w t → slice_get t.entities.now row ≡ Some e
     → (v : Value) → value_of w e i ≡ Some v → slice_get (lent_by t i) row ≡ Some v
+
+-- an entity stands in a column of an id that is data exactly where it lives and has the id, and its row has its value
+pub record ColumnsAreExact : Type 0 where
+  pub stand : (w : WorldState) (i : Id) (columns : List ListedColumn) → ListsColumns w i columns → (e : Entity)
+      → ((c : ListedColumn) × Contains columns c × Contains c.entities e)
+      ↔ (IsTrue (is_alive w e) × IsTrue (has_item id_cmp (map (λ p. p.0) (held_by w e)) i))
+  pub values : (w : WorldState) (i : Id) (columns : List ListedColumn) → ListsColumns w i columns → (c : ListedColumn) → Contains columns c
+      → (row : ℕ) (e : Entity) → slice_get c.entities row ≡ Some e → slice_get c.values row ≡ Some (value_in (held_by w e) i)
 
 -- ---- queries that were added
 

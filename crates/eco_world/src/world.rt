@@ -148,7 +148,7 @@ impl World {
         self.edition
     }
 
-    /// How many indices are known: those that were ever in use.
+    /// How many indices are known: those that were ever in use or admitted.
     pub fn high(&self) -> u32
         ensures { result ≡ length self.now.indices }
     {

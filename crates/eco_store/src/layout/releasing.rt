@@ -9,7 +9,7 @@ use eco_ids::TableSlot;
 use eco_tables::Tables;
 
 // So much room is worth more than the table costs to be made again, once as many rows have come.
-const MUCH_ROOM: usize = 1024;
+const MUCH_ROOM: usize = 65_536;
 
 // So much room is worth more than what it costs to give it back and to ask for it anew: a page of memory that is new costs as
 // much as the moves of some rows.

@@ -46,8 +46,8 @@ fn may_add_to(access: Access) -> bool
     }
 }
 
-// It is read.
-fn shows_values(access: Access) -> bool
+/// Whether a slot of this access shows the values of its entries: it is read (Flecs manual, Queries, access modifiers).
+pub fn shows_values(access: Access) -> bool
     ensures { result ≡ shows_values access }
 {
     match access {

@@ -14,7 +14,7 @@ mod sum;
 mod systems;
 mod writes;
 
-pub use action::Action;
+pub use action::{Action, shows_values};
 pub use body::SystemBody;
 pub use eco_stages::Draws;
 pub use lawful::{

@@ -1,6 +1,6 @@
 -- Texts that are read one after another on one world.
-use Rattle.eco_formats.proofs.Common.{◌≡◌, ◌<◌, ℕ, ◌+◌, ◌||◌, zero, suc, false, List, [], ◌∷◌, ◌++◌, flat_map, length, take, drop}
-use Rattle.eco_formats.proofs.Common.{Option, Some, None, Result, Ok, Err, OnOk, is_err, IsTrue, IsFalse, refl, sym, ap, subst, ◌∙◌, option_map}
+use Rattle.eco_formats.proofs.Common.{◌≡◌, ◌<◌, ℕ, ◌+◌, zero, suc, false, List, [], ◌∷◌, ◌++◌, flat_map, length, take, drop}
+use Rattle.eco_formats.proofs.Common.{Option, Some, None, Result, Ok, Err, OnOk, is_err, refl, sym, ap, subst, ◌∙◌, option_map}
 use Rattle.eco_formats.proofs.Common.{slice_get, arith, flat_map-append, append-nil, take_more, take-append-drop, ReadsCommand, ReadsCommands, ReadsEach}
 use Rattle.std.specs.Option.{IsSome}
 use Rattle.std.proofs.lemmas.Option.{get_or_from_slice_get, slice_get_within}

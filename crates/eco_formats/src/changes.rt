@@ -15,13 +15,21 @@ use eco_world::World;
 /// A change, with what its texts name. Each is the call of a world of the same name.
 #[derive(Clone, Copy)]
 pub enum Change<'a> {
+    /// The entity gets the id.
     Add(Entity, Id),
+    /// The entity loses the id.
     Remove(Entity, Id),
+    /// The entity has the value at the id.
     Set(Entity, Id, Value),
+    /// The entity loses all ids.
     Clear(Entity),
+    /// The entity has the name, or none.
     Rename(Entity, Option<&'a str>),
+    /// The entity dies.
     Delete(Entity),
+    /// All who have the id die.
     DeleteWith(Id),
+    /// All who have the id lose it.
     RemoveAll(Id),
 }
 
@@ -79,7 +87,7 @@ fn remove_all<'a>(world: &World, id: &str) -> Result<Change<'a>, Refusal>
     Ok(Change::RemoveAll(read_id(id, world)?))
 }
 
-/// The change that texts ask for on a world.
+/// The change that texts ask for on a world. It is refused as the first of its texts is that can't be read.
 pub fn read_change<'a>(world: &World, change: WrittenChange<'a>) -> Result<Change<'a>, Refusal>
     ensures { ReadsChange world.now (change_view change.entry) (ok_map named_command result) }
 {

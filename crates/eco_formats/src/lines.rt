@@ -129,7 +129,9 @@ fn name_or_dash<'a>(name: Option<&'a str>) -> &'a str
 /// The line of an entity, as `#9.0 a - [#10.0, #11.0=3 -4]`: its handle, its name, its arity, and its ids with their values.
 #[derive(Clone, Copy)]
 pub struct EntityLine<'a> {
+    /// The world that has them.
     pub world: &'a World,
+    /// Whose line it is.
     pub entity: Entity,
 }
 
@@ -152,7 +154,9 @@ impl fmt::Display for EntityLine<'_> {
 /// The line of a result, as `row #9.0 [#10.0, -]`: its entity, and an entry for each slot of the query.
 #[derive(Clone, Copy)]
 pub struct RowLine<'a> {
+    /// Who answers the query.
     pub entity: Entity,
+    /// What each slot has found, or none.
     pub entries: &'a [Option<Id>],
 }
 

@@ -1,6 +1,6 @@
 //! Stages and actions from the texts of a script, all of which are read on one world.
 
-ghost use Rattle.std.specs.Prelude.{◌≡◌, Some, IfOk, IsFalse, IsTrue, flat_map, option_map, string_bytes};
+ghost use Rattle.std.specs.Prelude.{◌≡◌, ◌<◌, Some, IfOk, IsFalse, IsTrue, flat_map, length, option_map, string_bytes};
 ghost use Rattle.eco_ids.specs.Outcome.{is_out_of_memory};
 ghost use Rattle.eco_grammar.specs.Readings.{ok_map};
 ghost use Rattle.eco_formats.specs.Changes.{named_command};
@@ -155,8 +155,9 @@ pub fn read_actions(
     world: &World,
     actions: Actions<'_>,
 ) -> Result<Vec<Action>, Refusal>
-    ensures { IsFalse (is_out_of_memory result)
+    ensures read { IsFalse (is_out_of_memory result)
         → ReadsActions world.now (actions_view actions.entry) (ok_map (λ v. v.items) result) }
+    ensures wanting { IsTrue (is_out_of_memory result) → 0 < length (actions_view actions.entry) }
 {
     let mut read = Vec::with_capacity(alloc, actions.len())?;
     for place in 0..actions.len() {

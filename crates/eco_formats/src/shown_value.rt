@@ -11,7 +11,9 @@ use std::fmt;
 /// A value, with how many of its fields are shown: as many as its id has.
 #[derive(Clone, Copy)]
 pub struct ShownValue {
+    /// How many fields are shown, 1 to 8.
     pub arity: u8,
+    /// The value, with zeros in the fields past them.
     pub value: Value,
 }
 

@@ -9,8 +9,7 @@ ghost use Rattle.eco_systems.specs.Rows.{entry_value};
 ghost use Rattle.eco_tables.specs.Values.{whole_values};
 ghost use Rattle.eco_frame.specs.Rows.{lent_in, lent_value, shown_in};
 
-use crate::row::shows_values;
-use eco_bodies::{set_sum_in_row, set_sums_in_rows, sum_of};
+use eco_bodies::{set_sum_in_row, set_sums_in_rows, shows_values, sum_of};
 use eco_ids::value::FIELD_COUNT;
 use eco_ids::{Entity, Id, Value};
 use eco_query::Slot;

@@ -21,12 +21,13 @@ mod stop;
 mod system_rows;
 
 pub use eco_bodies::{
-    Action, BodyRow, Draws, LentRow, NotAdded, Script, System, SystemBody, Systems, record_command,
+    Action, BodyRow, BodyRows, Draws, LentRow, NotAdded, Script, System, SystemBody, Systems,
+    record_command,
 };
 pub use eco_systems::{PHASES, Phase};
 pub use frame::{run_frame, run_frame_with};
 pub use pipeline::Pipeline;
-pub use points::sync_points;
+pub use points::{declaration, sync_points};
 pub use pool::StagePool;
 pub use report::FrameReport;
 pub use stop::FrameStop;

@@ -9,8 +9,8 @@ use eco_bodies::{System, SystemBody, Systems};
 use eco_traits::Holdings;
 use std::alloc::{AllocError, Global};
 
-// What a system declares.
-fn declaration<B: SystemBody>(system: &System<B>) -> Declared<'_>
+/// What a system declares, which decides into which batch it goes (Flecs manual, Systems, staging).
+pub fn declaration<B: SystemBody>(system: &System<B>) -> Declared<'_>
     ensures { Declares
         (model_of B.reads_of B.writes_of B.kills_of B.taken B.commands system.now) result }
 {

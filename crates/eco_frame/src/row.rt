@@ -1,11 +1,11 @@
 //! A row that a world lends.
 ghost use Rattle.std.specs.Prelude.{◌≡◌};
 ghost use Rattle.eco_ids.specs.Data.{value_of};
-ghost use Rattle.eco_systems.specs.Rows.{entry_value, shows_values};
+ghost use Rattle.eco_systems.specs.Rows.{entry_value};
 
-use eco_bodies::BodyRow;
+use eco_bodies::{BodyRow, shows_values};
 use eco_ids::{Entity, Id, Value};
-use eco_query::{Access, Query, Slot};
+use eco_query::{Query, Slot};
 use eco_world::EntityRef;
 
 /// A row of a query's results, lent from the world that answered it (Flecs manual, Systems). It owns nothing: its entries
@@ -18,16 +18,6 @@ pub struct WorldRow<'a> {
     entries: &'a [Option<Id>],
     // Whose slots say which values are shown.
     query: &'a Query,
-}
-
-/// Whether a slot of this access shows its values.
-pub(crate) fn shows_values(access: Access) -> bool
-    ensures { result ≡ shows_values access }
-{
-    match access {
-        Access::In | Access::InOut => true,
-        Access::Out | Access::InOutNone => false,
-    }
 }
 
 /// The value that an entity has at a slot's entry, where the slot shows it.

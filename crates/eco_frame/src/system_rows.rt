@@ -7,7 +7,8 @@ ghost use Rattle.eco_systems.specs.Rows.{valued_rows};
 ghost use Rattle.eco_world.specs.Queries.{may_query};
 ghost use Rattle.eco_frame.specs.Rows.{asks_no_data, may_show, world_row};
 
-use crate::row::{WorldRow, shows_values};
+use crate::row::WorldRow;
+use eco_bodies::shows_values;
 use eco_ids::{Entity, Id, Pattern, Refusal};
 use eco_query::{Query, Slot, Term};
 use eco_world::{EntityRef, Results, World};

@@ -278,9 +278,9 @@ impl<J: Naming, R: Wait + Drop> Merger<J, R> {
     /// It costs twice what [`World::merge`] does, and may wait until viewers have left the world of two merges ago; where one
     /// stays there for long, that world is left to it, and the one that is shown is copied.
     ///
-    /// Refused with `NoMoreIds` where the admitted indices would pass the limit, and with `OutOfMemory` where memory is wanting
-    /// or the merger is stopped. A refused merge publishes nothing. The merger is stopped only where publishing itself was
-    /// refused, for want of memory, and stays stopped.
+    /// Refused with `OutOfMemory` where the merger is stopped, else with `NoMoreIds` where the admitted indices would pass the
+    /// limit, else with `OutOfMemory` where memory is wanting. A refused merge publishes nothing. The merger is stopped only
+    /// where publishing itself was refused, for want of memory, and stays stopped.
     pub fn merge(&mut self, admitted: u32, stages: &[Stage]) -> Result<Report, Refusal>
         ensures ok { IfOk result (λ r. history self.new.writer.desk.shown.value
             ≡ history self.old.writer.desk.shown.value ++ merge admitted (all_commands stages.now) r ∷ []) }

@@ -42,8 +42,8 @@ fn split_first(values: Values<'_>) -> Option<(Value, Values<'_>)>
 }
 
 impl<'a, C> TypedColumn<'a, C> {
-    // All of these values.
-    pub(crate) fn of(values: Values<'a>) -> TypedColumn<'a, C>
+    /// All of these values, as those of a [`Column`](eco_world::Column) of a world.
+    pub fn of(values: Values<'a>) -> TypedColumn<'a, C>
         ensures { whole_values result.values ≡ whole_values values.entry }
     {
         TypedColumn {

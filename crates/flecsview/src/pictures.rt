@@ -2,8 +2,8 @@
 
 use crate::arguments::Request;
 use crate::stopped::Stopped;
-use eco_batches::Declared;
-use eco_bodies::{Script, System, SystemBody, Systems};
+use eco_bodies::{Script, System, Systems};
+use eco_frame::declaration;
 use eco_printed::NamedSystems;
 use eco_world::World;
 use std::alloc::{AllocError, Global};
@@ -19,17 +19,6 @@ fn write(rt: &HostRuntime, file: &str, picture: Result<String, AllocError>) -> R
         return Err(Stopped);
     }
     Ok(())
-}
-
-// What a system declares.
-fn declaration(system: &System<Script>) -> Declared<'_> {
-    Declared {
-        phase: system.phase,
-        query_reads: &system.query_reads,
-        body_reads: system.body.reads(),
-        writes: system.body.writes(),
-        kills: system.body.kills(),
-    }
 }
 
 // The names of systems.

@@ -5,7 +5,7 @@ use crate::listings::are_same;
 use crate::one_by_one::{Done, OneByOne, number_of};
 use crate::plans::FramePlan;
 use eco_bodies::{SystemBody, Systems};
-use eco_frame::{FrameReport, run_frame, sync_points};
+use eco_frame::{FrameReport, run_frame};
 use eco_systems::Phase;
 use eco_world::{Query, World};
 use std::alloc::Global;
@@ -84,18 +84,6 @@ fn has_outcomes(report: &FrameReport, done: &[Done]) -> bool {
     rest.is_empty()
 }
 
-// How many batches the systems have on the world; as many as can be, where that found no memory.
-fn count_batches<B: SystemBody + Drop>(
-    alloc: Global,
-    world: &World,
-    systems: &Systems<B>,
-) -> usize {
-    match sync_points(alloc, world, systems) {
-        Ok(batches) => batches.len(),
-        Err(_) => usize::MAX,
-    }
-}
-
 /// Runs a frame of the systems, and tells whether it is what is expected, but for which fresh index is whose. One worker draws as is
 /// expected.
 pub fn runs_as<R: Threads + Sync, B: SystemBody + Sync + Drop>(
@@ -110,13 +98,10 @@ pub fn runs_as<R: Threads + Sync, B: SystemBody + Sync + Drop>(
     requires { (1 ≤ workers) × (workers ≤ 64) }
 {
     let known = if workers == 1 { u32::MAX } else { world.high() };
-    let batches = count_batches(alloc, world, systems);
     match run_frame(rt, alloc, world, systems, workers) {
         Ok(report) => {
             totals.count(systems.as_slice().len(), &report, &expected.done);
-            report.batches() == batches
-                && has_outcomes(&report, &expected.done)
-                && are_same(alloc, world, &expected.world, known)
+            has_outcomes(&report, &expected.done) && are_same(alloc, world, &expected.world, known)
         }
         Err(_) => false,
     }

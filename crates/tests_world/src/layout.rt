@@ -1,6 +1,6 @@
 //! The tables of a world, held against what each entity has.
 use eco_ids::{Entity, Id, Value};
-use eco_world::{TableRows, Values, World};
+use eco_world::{Column, TableRows, Values, World};
 
 // Whether the ids come behind those of the table before, if there is one.
 fn is_next(before: Option<&TableRows<'_>>, ids: &[Id]) -> bool {
@@ -70,6 +70,56 @@ fn have_values(world: &World, entities: &[Entity], id: Id, rows: &[[i64; 2]]) ->
     rows.len() == entities.len()
 }
 
+// Whether the column has two fields of each of its entities, as the world has them.
+fn is_column(world: &World, column: Column<'_>, id: Id) -> bool {
+    match column.values {
+        Values::Two(rows) => have_values(world, column.entities, id, rows),
+        _ => false,
+    }
+}
+
+// How many rows the columns of an id have, if each of them is right.
+fn count_column_rows(world: &World, id: Id) -> Option<usize> {
+    let mut count = 0usize;
+    for column in world.columns(id) {
+        if !is_column(world, column, id) {
+            return None;
+        }
+        count = count.saturating_add(column.entities.len());
+    }
+    Some(count)
+}
+
+// How many entities of the tables have the id.
+fn count_holders(tables: &[TableRows<'_>], id: Id) -> usize {
+    let mut count = 0usize;
+    for table in tables {
+        if table.ids.contains(&id) {
+            count = count.saturating_add(table.entities.len());
+        }
+    }
+    count
+}
+
+// Whether the columns of an id have as many rows as entities have it, each with its value, and none where it is no data.
+fn are_columns(world: &World, tables: &[TableRows<'_>], id: Id) -> bool {
+    let holders = match world.arity(id) {
+        Some(_) => count_holders(tables, id),
+        None => 0,
+    };
+    count_column_rows(world, id) == Some(holders)
+}
+
+// Whether they do so for each of the ids.
+fn are_columns_of(world: &World, tables: &[TableRows<'_>], ids: &[Id]) -> bool {
+    for id in ids {
+        if !are_columns(world, tables, *id) {
+            return false;
+        }
+    }
+    true
+}
+
 // Whether the table lends the values of an id as those of the entities: two fields of each, or nothing where it is no data.
 fn lends(world: &World, table: &TableRows<'_>, id: Id) -> bool {
     match table.values(id) {
@@ -89,17 +139,17 @@ fn lends_each(world: &World, table: &TableRows<'_>) -> bool {
     true
 }
 
-// Whether each of the tables does so.
+// Whether each of the tables does so, and the columns of its ids have just the rows of those tables.
 fn lend_each(world: &World, tables: &[TableRows<'_>]) -> bool {
     for table in tables {
-        if !lends_each(world, table) {
+        if !lends_each(world, table) || !are_columns_of(world, tables, table.ids) {
             return false;
         }
     }
     true
 }
 
-/// Whether each table lends the values of each of its ids so.
+/// Whether each table lends the values of each of its ids so, and each id its columns.
 pub fn lends_all(world: &World) -> bool {
     match world.tables() {
         Ok(tables) => lend_each(world, &tables),

@@ -1,5 +1,6 @@
 //! After each step of a long run a query answers what a plain filter finds, and the tables are those that a listing entity by entity
-//! gives, and lend the values that each has. After every second step all queries that are kept do so too, and those of a copy.
+//! gives, and lend the values that each has, as the columns of ids do. After every second step all queries that are kept do so
+//! too, and those of a copy.
 use crate::answers::{count_asked, count_kept};
 use crate::draws::RandomDraws;
 use crate::layout::{agrees, lends_all};

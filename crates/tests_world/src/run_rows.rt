@@ -98,8 +98,9 @@ fn is_done(alloc: Global) -> Result<bool, Refusal> {
     let mut world = opening(alloc)?;
     let mut stages = [Stage::new(alloc)];
     record_rows(&mut stages[0]);
+    let is_one_run = stages[0].recorded().0.len() == 1;
     let report = world.merge(0, &stages)?;
-    Ok(are_answered(&report) && have_values(&world))
+    Ok(is_one_run && are_answered(&report) && have_values(&world))
 }
 
 #[test]

@@ -18,14 +18,14 @@ loop-place-preserved c =
       room = omega (arith, c.push_reserved.ensures.capacity, c.loop-place.invariant.room);
     }
 
-pub returns-in_err-action : goal.returns-in_err-action
-returns-in_err-action c =
+pub returns-in_err-action-clause-read : goal.returns-in_err-action-clause-read
+returns-in_err-action-clause-read c =
     let p = err_from_is_err_and c.from_residual-in_err-action.result c.from_residual-in_err-action.ensures.1 in
     rw (p.1, p.2) (λ _.
     one_refused (ReadsAction c.args.world.now) action_view (actions_view c.args.actions) c.loop-place.place _ _ c.get.ensures c.unwrap.ensures
     c.loop-place.read.items c.loop-place.invariant.read c.in_err-action.field-0.0 c.in_err-action.ensures)
 
-pub returns : goal.returns
-returns c = λ _.
+pub returns-clause-read : goal.returns-clause-read
+returns-clause-read c = λ _.
     subst (λ xs. ReadsActions c.args.world.now xs (Ok c.loop-place.read.items))
     (take_all c.loop-place.place (actions_view c.args.actions) (rw c.len-place-end.ensures at c.loop-place-test.false)) c.loop-place.invariant.read

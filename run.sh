@@ -236,6 +236,20 @@ take_script() {
     fi
 }
 
+# The words behind the script that is shown: those that the viewer knows, each with its file.
+check_view() {
+    while [ $# -gt 0 ]; do
+        case $1 in
+        --names) shift ;;
+        --tables | --graph | --batches)
+            [ $# -ge 2 ] || refuse "$1 takes a file"
+            shift 2
+            ;;
+        *) refuse "behind the script of --view stand --names, --tables FILE, --graph FILE, --batches FILE, and not $1" ;;
+        esac
+    done
+}
+
 case ${1-} in
 --help | -h)
     usage
@@ -256,6 +270,7 @@ case ${1-} in
     [ $# -ge 2 ] || refuse "--view takes a script"
     take_script "$2"
     shift 2
+    check_view "$@"
     run_or_tell flecsview "$@"
     ;;
 '') refuse "no script is named" ;;

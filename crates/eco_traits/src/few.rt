@@ -1,8 +1,8 @@
 //! What a walk leads to, where that is little.
-ghost use Rattle.std.specs.Prelude.{◌≡◌, ◌<◌, ◌∷◌, [], IfSome, OnSome, slice_get};
+ghost use Rattle.std.specs.Prelude.{◌≡◌, ◌<◌, ◌∷◌, [], IfNone, IfSome, OnSome, length, slice_get};
 ghost use Rattle.eco_ids.specs.Order.{entity_cmp, has_item};
 ghost use Rattle.eco_traits.specs.Target.{IsReach};
-ghost use Rattle.eco_traits.specs.Walk.{targets_of, with_others};
+ghost use Rattle.eco_traits.specs.Walk.{LeadsFar, targets_of, with_others};
 
 use crate::holdings::Holdings;
 use crate::walk::target_by;
@@ -71,7 +71,8 @@ impl FewReached {
 
     // The entity is noted, unless it is there. No answer where it is not, and there are eight.
     fn note(&mut self, entity: Entity) -> Option<()>
-        ensures { OnSome result (self.new ≡ with_others self.old (entity ∷ [])) }
+        ensures noted { OnSome result (self.new ≡ with_others self.old (entity ∷ [])) }
+        ensures full { IfNone result (FEW < length (with_others self.old (entity ∷ []))) }
     {
         if self.has(entity) {
             return Some(());
@@ -92,7 +93,8 @@ pub(crate) fn few_reached<H: Holdings>(
     relationship: Entity,
     from: Entity,
 ) -> Option<FewReached>
-    ensures { IfSome result (IsReach (H.world holdings.now) relationship from) }
+    ensures all { IfSome result (IsReach (H.world holdings.now) relationship from) }
+    ensures far { IfNone result (LeadsFar (H.world holdings.now) relationship from) }
 {
     let mut few = FewReached::of(from);
     let mut asked = 0;
@@ -107,7 +109,8 @@ pub(crate) fn few_reached<H: Holdings>(
 
 // The targets of the pairs of the relationship among the ids are noted. No answer where there are more than eight then.
 fn note_targets(few: &mut FewReached, ids: &[Id], relationship: Entity) -> Option<()>
-    ensures { OnSome result (few.new ≡ with_others few.old (targets_of relationship ids.now)) }
+    ensures noted { OnSome result (few.new ≡ with_others few.old (targets_of relationship ids.now)) }
+    ensures full { IfNone result (FEW < length (with_others few.old (targets_of relationship ids.now))) }
 {
     for id in ids {
         if let Some(target) = target_by(*id, relationship) {

@@ -40,6 +40,6 @@ pub use Rattle.eco_ids.specs.declared.value.Value.{Value}
 pub use Rattle.eco_traits.specs.Closure.{BringNoMore, HasBrought, HasGiven, HasSameIds, LacksWith, gives, head_of, with_head, with_heads}
 pub use Rattle.eco_traits.specs.Prospect.{is_trait}
 pub use Rattle.eco_traits.specs.Target.{AddLeadsTo, AppendsTargets, BringsNone, ClosesBy, ExtendsTo, FindsTarget, FindsType, IsAmong, IsClosedBy, IsPlain}
-pub use Rattle.eco_traits.specs.Target.{AreFreeHeads, AreNoTraits, IsReach}
+pub use Rattle.eco_traits.specs.Target.{AreFreeHeads, AreNoTraits, BringsTrait, IsReach}
 pub use Rattle.eco_traits.specs.Target.{BringFreely, ComesFreely, IsNoTrait, IsSound, LacksTraits, Replaces, extended_by, left_by, target_by_pair, ties}
 pub use Rattle.eco_traits.specs.Target.{type_of_entity, type_of_record, without_replaced}

@@ -6,6 +6,7 @@ use Rattle.eco_traits.proofs.Common.{same_members, joins_with, Edition, Entity, 
 use Rattle.eco_traits.proofs.Common.{has_item, is_ascending, with_item, has_symmetric, late_traits, IsClosure, Judges, grown, is_late}
 use Rattle.eco_traits.proofs.Common.{is_pair_of, is_replaced, is_used, is_wrong_policy, WorldState, Record, has, is_exclusive, names_living, record_of}
 use Rattle.eco_traits.proofs.Common.{HasBrought, HasGiven, gives, head_of, target_by_pair, entity_eq_is, AddLeadsTo, BringFreely, ComesFreely, IsNoTrait}
+use Rattle.eco_traits.proofs.Common.{◌⊎◌, or_left, or_right, BringsTrait, IsReach}
 use Rattle.eco_traits.proofs.Common.{IsSound, LacksWith, take_more, type_of_entity, AreFreeHeads, AreNoTraits, HasSameIds, entity_cmp, same_entity, with_heads}
 use Rattle.eco_traits.proofs.Closures.{closure_of_heads, head_of_item}
 use Rattle.eco_ids.specs.declared.edition.Edition.TheVariants.{First, Second}
@@ -247,6 +248,34 @@ pub no_trait_at : (d : Edition) (entities : List Entity) (k : ℕ) (x : Entity) 
     → IsNoTrait d (get_or entities k x)
 no_trait_at d entities k x l all =
     let y = get_or entities k x in all y (list_any_at (λ z. entity_eq z y) entities k x l (entity_eq_itself y))
+
+-- one of the entities is such a trait
+abbrev HasTrait : Edition → List Entity → Type 0
+HasTrait d entities = (x : Entity) × IsTrue (has_item entity_cmp entities x) × (IsNoTrait d x → ⊥)
+
+-- so it is where not all are none
+one_is_trait : (d : Edition) (entities : List Entity) → (AreNoTraits d entities → ⊥) → HasTrait d entities
+one_is_trait d [] some = absurd (some (λ x h. absurd (true≢false (sym h))))
+one_is_trait d (x ∷ xs) some =
+    elim (all_false (entity_eq x EXCLUSIVE) (entity_eq x ACYCLIC) (has_symmetric d && entity_eq x SYMMETRIC)) as (λ _. HasTrait d (x ∷ xs)) [
+      | inl none ↦
+          let rest = one_is_trait d xs (λ all. some (λ y h. elim (or_parts (entity_eq x y) (has_item entity_cmp xs y) h) as (λ _. IsNoTrait d y) [
+            | inl k ↦ subst (IsNoTrait d) (entity_eq_is x y k) none
+            | inr k ↦ all y k
+          ])) in
+          (rest.0, or_right _ _ rest.1, rest.2)
+      | inr is ↦ (x, or_left _ _ (entity_eq_itself x), is)
+    ]
+  where
+    all_false : (a b c : Bool) → ((a ≡ false) × (b ≡ false) × (c ≡ false)) ⊎ ((a ≡ false) × (b ≡ false) × (c ≡ false) → ⊥)
+    all_false true b c = inr (λ h. true≢false h.0)
+    all_false false true c = inr (λ h. true≢false h.1)
+    all_false false false true = inr (λ h. true≢false h.2)
+    all_false false false false = inl (refl, refl, refl)
+
+-- and where these are all that c brings along, c brings it
+pub brings_trait : (w : WorldState) (c : Entity) (heads : List Entity) → IsReach w WITH c heads → (AreNoTraits w.edition heads → ⊥) → BringsTrait w c
+brings_trait w c heads all some = let one = one_is_trait w.edition heads some in (one.0, (all one.0).0 one.1, one.2)
 
 pub heads_lead_to : (w : WorldState) (e c : Entity) (heads : List Entity) → AreFreeHeads w c heads → (coming own all : List Id)
     → HasSameIds coming (with_heads (One c) heads) → IsTrue (is_ascending id_cmp coming) → names_living w (One c) ≡ true → has w e (One c) ≡ false

@@ -87,6 +87,10 @@ AreNoTraits edition entities = (x : Entity) → IsTrue (has_item entity_cmp enti
 abbrev pub AreFreeHeads : WorldState → Entity → List Entity → Type 0
 AreFreeHeads w c heads = IsReach w WITH c heads × AreNoTraits w.edition heads
 
+-- c, or one of those that it brings along, however far, is such a trait
+abbrev pub BringsTrait : WorldState → Entity → Type 0
+BringsTrait w c = (x : Entity) × Reaches w WITH c x × (IsNoTrait w.edition x → ⊥)
+
 -- an id that brings nothing along, replaces nothing and has no mirror, and nothing stands against it, where its entity or its
 -- relationship has these ids: a single id that is no trait which may come too late, or a pair of a relationship that is
 -- neither exclusive nor acyclic nor symmetric, and no wrong cleanup pair; where relationships may be symmetric, no pair of

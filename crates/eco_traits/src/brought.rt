@@ -1,11 +1,12 @@
 //! A single id that comes with what it brings along.
-ghost use Rattle.std.specs.Prelude.{◌≡◌, ◌↔◌, fold, IfOk, IfSome, IsTrue, OnOk};
+ghost use Rattle.std.specs.Prelude.{◌≡◌, ◌↔◌, ◌⊎◌, fold, IfNone, IfOk, IfSome, IsTrue, OnOk};
 ghost use Rattle.eco_ids.specs.declared.entity.Entity.{Entity as EntityData};
 ghost use Rattle.eco_ids.specs.declared.entity.TheConstants.{WITH as WITH_DATA};
 ghost use Rattle.eco_ids.specs.declared.id.Id.TheVariants.{Two};
 ghost use Rattle.eco_ids.specs.Order.{id_cmp, is_ascending, with_item};
 ghost use Rattle.eco_traits.specs.Closure.{HasBrought, LacksWith};
-ghost use Rattle.eco_traits.specs.Target.{AreFreeHeads, AreNoTraits, BringFreely, ComesFreely, IsNoTrait};
+ghost use Rattle.eco_traits.specs.Target.{AreFreeHeads, AreNoTraits, BringFreely, BringsTrait, ComesFreely, IsNoTrait};
+ghost use Rattle.eco_traits.specs.Walk.{LeadsFar};
 
 use crate::few::{FewReached, few_reached};
 use crate::holdings::Holdings;
@@ -55,7 +56,9 @@ fn brings_freely<H: Holdings>(holdings: &H, id: Id) -> bool
 ///
 /// No answer where one is such a trait, or where they are more than a short walk leads to ([`few_reached`]).
 pub(crate) fn free_heads<H: Holdings>(holdings: &H, single: Entity) -> Option<FewReached>
-    ensures { IfSome result (AreFreeHeads (H.world holdings.now) single) }
+    ensures free { IfSome result (AreFreeHeads (H.world holdings.now) single) }
+    ensures none { IfNone result
+        (LeadsFar (H.world holdings.now) WITH_DATA single ⊎ BringsTrait (H.world holdings.now) single) }
 {
     let heads = few_reached(holdings, WITH, single)?;
     if !are_no_traits(holdings.edition(), heads.as_slice()) {

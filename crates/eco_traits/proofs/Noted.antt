@@ -84,11 +84,9 @@ pub walk_goes_on : (w : WorldState) (r from : Entity) (members new : List Entity
     → new ≡ with_others members (targets_of r ids) → IsWalk w r from new (asked + 1)
 walk_goes_on w r from members new asked e ids walk at own noted =
     let here = get_or_from_slice_get members asked e e at in
-    subst (λ ms. IsWalk w r from ms (asked + 1)) (sym noted) (
-      search_goes_on is_noted noted_laws noted_same _ (from ∷ []) members (targets_of r ids) asked e walk.0 (slice_get_within members asked e at)
-      (λ b. let is = ap (λ x. has w x (Two r b)) here ∙ own b in (λ h. is ∙ sym (target_is r ids b) ∙ h, λ h. target_is r ids b ∙ sym is ∙ h)),
-      noted_once members (targets_of r ids) walk.1,
-    )
+    let on = search_goes_on is_noted noted_laws noted_same _ (from ∷ []) members (targets_of r ids) asked e walk.0 (slice_get_within members asked e at)
+    (λ b. let is = ap (λ x. has w x (Two r b)) here ∙ own b in (λ h. is ∙ sym (target_is r ids b) ∙ h, λ h. target_is r ids b ∙ sym is ∙ h)) in
+    subst (λ ms. IsWalk w r from ms (asked + 1)) (sym noted) (on, noted_once members (targets_of r ids) walk.1)
 
 -- those that it noted are reached
 walk_reaches : (w : WorldState) (r from : Entity) (members : List Entity) (asked : ℕ) → IsWalk w r from members asked → All (Reaches w r from) members

@@ -14,7 +14,7 @@ use Rattle.eco_ids.specs.Order.{entity_cmp, entity_eq, has_item, id_cmp, with_it
 use Rattle.eco_ids.specs.Outcome.{is_out_of_memory}
 use Rattle.eco_ids.specs.Step.{IsClosure, Judges, grown, is_replaced, is_wrong_policy, with_closure}
 use Rattle.eco_ids.specs.Traits.{Reaches}
-use Rattle.eco_traits.specs.Closure.{LacksWith}
+use Rattle.eco_traits.specs.Closure.{LacksWith, head_of}
 use Rattle.eco_traits.specs.declared.target.Target.{Target}
 use Rattle.eco_traits.specs.declared.target.Target.TheVariants.{Own, With, Instead, Other}
 use Rattle.eco_ids.specs.World.{Record, WorldState, has, is_acyclic, names_living, record_of}
@@ -107,6 +107,15 @@ ties w own r t = (has_symmetric w.edition && entity_eq r WITH) && (has_item id_c
 -- what is asked of a world: where relationships may be symmetric, that it is in order
 abbrev pub IsSound : WorldState → Type 0
 IsSound w = IsTrue (has_symmetric w.edition) → IsLawful w
+
+-- an add of i to e that is still open: e lacks i, in which each entity lives; the first ids are those that e has, and the others
+-- those of the entity that says how i behaves
+pub record IsOpenAdd (w : WorldState) (e : Entity) (i : Id) (own_ids head_ids : List Id) : Type 0 where
+  pub lives : IsTrue (names_living w i)
+  pub absent : IsFalse (has w e i)
+  pub sound : IsSound w
+  pub own : Some own_ids ≡ type_of_entity w e
+  pub traits : Some head_ids ≡ type_of_entity w (head_of i)
 
 -- the type that e has once the closure s came to it
 abbrev pub IsTypeAfter : WorldState → Entity → List Id → Result (List Id) Refusal → Type 0

@@ -10,7 +10,7 @@ ghost use Rattle.eco_ids.specs.Step as step;
 ghost use Rattle.eco_ids.specs.World as world;
 ghost use Rattle.eco_traits.specs.Closure.{head_of};
 ghost use Rattle.eco_ids.specs.Traits.{Reaches};
-ghost use Rattle.eco_traits.specs.Target.{FindsTarget, FindsType, is_own_type, IsAmong, IsSound, TakesOwn, Replaces};
+ghost use Rattle.eco_traits.specs.Target.{FindsTarget, FindsType, is_own_type, IsAmong, IsOpenAdd, IsSound, TakesOwn, Replaces};
 ghost use Rattle.eco_traits.specs.Target.{extended_by, left_by, target_by, without_replaced, ties, type_of_entity};
 
 use crate::brought::{comes_freely, free_heads, put_all, with_brought};
@@ -158,11 +158,7 @@ fn single_type<H: Holdings>(
     single: Entity,
     traits: &TypeList,
 ) -> Result<TypeList, Refusal>
-    requires lives { IsTrue (world.names_living (H.world holdings.now) (One single)) }
-    requires absent { IsFalse (world.has (H.world holdings.now) entity (One single)) }
-    requires sound { IsSound (H.world holdings.now) }
-    requires own { Some own.now ≡ type_of_entity (H.world holdings.now) entity }
-    requires traits { Some traits.now ≡ type_of_entity (H.world holdings.now) single }
+    requires { IsOpenAdd (H.world holdings.now) entity (One single) own.now traits.now }
     ensures { FindsType (H.world holdings.now) entity (One single) result }
 {
     if comes_freely(holdings, single, traits.as_slice()) {
@@ -183,11 +179,7 @@ fn far_type<H: Holdings>(
     single: Entity,
     traits: &TypeList,
 ) -> Result<TypeList, Refusal>
-    requires lives { IsTrue (world.names_living (H.world holdings.now) (One single)) }
-    requires absent { IsFalse (world.has (H.world holdings.now) entity (One single)) }
-    requires sound { IsSound (H.world holdings.now) }
-    requires own { Some own.now ≡ type_of_entity (H.world holdings.now) entity }
-    requires traits { Some traits.now ≡ type_of_entity (H.world holdings.now) single }
+    requires { IsOpenAdd (H.world holdings.now) entity (One single) own.now traits.now }
     ensures { FindsType (H.world holdings.now) entity (One single) result }
 {
     if let Some(heads) = free_heads(holdings, single) {
@@ -209,11 +201,7 @@ fn short_way<H: Holdings>(
     target: Entity,
     traits: &TypeList,
 ) -> Option<Option<Id>>
-    requires lives { IsTrue (world.names_living (H.world holdings.now) (Two relationship target)) }
-    requires absent { IsFalse (world.has (H.world holdings.now) entity (Two relationship target)) }
-    requires sound { IsSound (H.world holdings.now) }
-    requires own { Some own.now ≡ type_of_entity (H.world holdings.now) entity }
-    requires traits { Some traits.now ≡ type_of_entity (H.world holdings.now) relationship }
+    requires { IsOpenAdd (H.world holdings.now) entity (Two relationship target) own.now traits.now }
     ensures among { IfSome result (IsAmong own.now) }
     ensures replaces { IfSome result
         (λ replaced. Replaces (H.world holdings.now) entity (Two relationship target) own.now replaced) }
@@ -312,11 +300,7 @@ fn judged_type<H: Holdings>(
     added: Id,
     traits: &TypeList,
 ) -> Result<TypeList, Refusal>
-    requires lives { IsTrue (world.names_living (H.world holdings.now) added) }
-    requires absent { IsFalse (world.has (H.world holdings.now) entity added) }
-    requires sound { IsSound (H.world holdings.now) }
-    requires own { Some own.now ≡ type_of_entity (H.world holdings.now) entity }
-    requires traits { Some traits.now ≡ type_of_entity (H.world holdings.now) (head_of added) }
+    requires { IsOpenAdd (H.world holdings.now) entity added own.now traits.now }
     ensures { FindsType (H.world holdings.now) entity added result }
 {
     let coming = closure_by(alloc, holdings, added, traits.as_slice())?;

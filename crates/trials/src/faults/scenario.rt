@@ -62,6 +62,31 @@ const IMPLIED: &[Deed] = &[
     Deed::Keep("U, !With"),
 ];
 
+// `T` brings others along in a chain: with it they are ten, more than a short walk notes, and one of them is data. `e` lacks all.
+const FAR: &[Deed] = &[
+    Deed::Name("T"),
+    Deed::Wide("U"),
+    Deed::Make,
+    Deed::Make,
+    Deed::Make,
+    Deed::Make,
+    Deed::Make,
+    Deed::Make,
+    Deed::Make,
+    Deed::Make,
+    Deed::Name("e"),
+    Deed::AddPair(9, WITH.index, 10),
+    Deed::AddPair(10, WITH.index, 11),
+    Deed::AddPair(11, WITH.index, 12),
+    Deed::AddPair(12, WITH.index, 13),
+    Deed::AddPair(13, WITH.index, 14),
+    Deed::AddPair(14, WITH.index, 15),
+    Deed::AddPair(15, WITH.index, 16),
+    Deed::AddPair(16, WITH.index, 17),
+    Deed::AddPair(17, WITH.index, 18),
+    Deed::Keep("T, U"),
+];
+
 // An entity without a name has a value, which it alone has, and lacks the tag `T`, which nobody has.
 const TAG: &[Deed] = &[
     Deed::Name("T"),
@@ -176,6 +201,13 @@ const SCENARIOS: &[Scenario] = &[
         edition: Edition::First,
         deeds: IMPLIED,
         call: Call::Change(Deed::Add(12, 9)),
+    },
+    // The same, and a walk finds what comes along.
+    Scenario {
+        name: "add_far",
+        edition: Edition::First,
+        deeds: FAR,
+        call: Call::Change(Deed::Add(19, 9)),
     },
     // Leads from a table with two rows to a new type by an edge that is lacking, where two queries are kept.
     Scenario {

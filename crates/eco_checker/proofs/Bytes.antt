@@ -1,5 +1,5 @@
 -- Which bytes are a script, by the value that they are.
-use Rattle.eco_checker.proofs.Common.{◌≡◌, ℕ, Bool, true, false, List, ◌++◌, Option, Some, None, Result, Ok, Err, IfOk, IsUtf8, inl, inr, refl, ap}
+use Rattle.eco_checker.proofs.Common.{◌≡◌, ℕ, Bool, true, false, List, ◌++◌, Option, Some, None, IsUtf8, inl, inr, refl, ap}
 use Rattle.eco_checker.proofs.Common.{◌∙◌, append-nil, Data, WrittenScript, IsScript, IsScriptData}
 use Rattle.std.specs.Io.KnownBytes.{Appends, Consumes, IsAtEnd}
 use Rattle.serde_json.specs.Read.{read}
@@ -32,7 +32,7 @@ told_to_end None after bytes told p q h = tt
 told_to_end (Some xs) None bytes told p q h = absurd p
 told_to_end (Some xs) (Some ys) bytes told p q h = rw (read_whole xs ys bytes p q) h
 
-script_to_end : (left after : Option (List ℕ)) (bytes : List ℕ) → Consumes left after bytes → IsAtEnd after → ((s : WrittenScript) × IsScript bytes s)
+pub script_to_end : (left after : Option (List ℕ)) (bytes : List ℕ) → Consumes left after bytes → IsAtEnd after → ((s : WrittenScript) × IsScript bytes s)
     → AreScript left
 script_to_end None after bytes p q h = tt
 script_to_end (Some xs) None bytes p q h = absurd p
@@ -51,8 +51,3 @@ module _ (left after : Option (List ℕ)) (bytes : List ℕ) (p : Consumes left 
       → (is ≡ true → text ≡ script_line) → (is ≡ false → (told : List ℕ) × IsReport bytes told × (text ≡ told))
       → (a b : Option (List ℕ)) → ((part : List ℕ) × IsBeginning part text × Appends a b part) → WasCutShort left a b
   stopped_to_end is some none line faults a b (part, begins, wrote) = inr (part, text, text_to_end is some none line faults, begins, wrote)
-
--- what follows where a test is false
-pub if_ok_false : {E : Type 0} (r : Result Bool E) (P Q : Type 0) → (P → Q) → IfOk r (λ b. b ≡ false → P) → IfOk r (λ b. b ≡ false → Q)
-if_ok_false (Ok b) P Q f h = λ e. f (h e)
-if_ok_false (Err e) P Q f h = h

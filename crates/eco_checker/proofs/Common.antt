@@ -2,7 +2,7 @@
 pub use Rattle.std.proofs.Common.{All, Bool, Err, IfOk, IsUtf8, List, None, Ok, OnOk, Option, Result, Some, [], ap, arith, false, flat_map, get_or, inl, inr}
 pub use Rattle.std.proofs.Common.{length, ltb, ltb-false, map, option_and_then, option_map, refl, string_bytes, suc, sym, take, true, zero, ℕ, ◌++◌}
 pub use Rattle.std.proofs.Common.{◌+◌, ◌<◌, ◌∙◌, ◌∷◌, ◌≡◌, ◌≢◌, ◌≤◌}
-pub use Rattle.std.proofs.lemmas.List.{append-nil, append_assoc, length-map, length-take-le, map-append, take_more}
+pub use Rattle.std.proofs.lemmas.List.{append-nil, append_assoc, length-map, length-take-le, map-append, take_all, take_more}
 pub use Rattle.std.specs.Option.{is_some, unwrap_or}
 pub use Rattle.std.specs.Prelude.{codes, decimal}
 pub use Rattle.eco_checker.specs.Faults.{edition_in, first_edition, items_in, numbers_without, third_items, unless_found, unless_read}

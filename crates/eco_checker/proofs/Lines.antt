@@ -39,6 +39,12 @@ adds_more n a b c (xs, e, p) (ys, f, q) = (xs ++ ys, f ∙ ap (λ l. l ++ ys) e 
 pub some_adds : (n : ℕ) (a b : List (List ℕ)) → AddsSome n a b → AddsLines n a b
 some_adds n a b (xs, e, ne, p) = (xs, e, p)
 
+-- some lines of a step behind others of it
+pub adds_some : (n : ℕ) (a b c : List (List ℕ)) → AddsLines n a b → AddsSome n b c → AddsSome n a c
+adds_some n a b c ([], e, p) (ys, f, ne, q) = (ys, f ∙ ap (λ l. l ++ ys) (e ∙ append-nil a), ne, q)
+adds_some n a b c (x ∷ xs, e, p) (ys, f, ne, q) =
+    ((x ∷ xs) ++ ys, f ∙ ap (λ l. l ++ ys) e ∙ append_assoc a (x ∷ xs) ys, (λ q. cc), own-append n (x ∷ xs) ys p q)
+
 -- where there are more lines, some were added
 pub grown : (n : ℕ) (a b : List (List ℕ)) → AddsLines n a b → length b ≢ length a → AddsSome n a b
 grown n a b ([], e, p) ne = absurd (ne (ap length (e ∙ append-nil a)))

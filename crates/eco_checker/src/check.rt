@@ -30,7 +30,6 @@ fn check_value(alloc: Global, value: &Value, text: &mut String) -> Result<bool, 
 }
 
 /// Whether some bytes are a script. Adds the line `is a script`, or a line for each of their faults and their number.
-#[tactic(auto, using(crate::proofs::Bytes::script_bytes, crate::proofs::Bytes::no_script_bytes, crate::proofs::Bytes::no_text_bytes))]
 pub fn check_bytes(alloc: Global, bytes: &[u8], text: &mut String) -> Result<bool, AllocError>
     ensures script { IfOk result (λ is. is ≡ true → (s : WrittenScript) × IsScript bytes.now s) }
     ensures none { IfOk result (λ is. is ≡ false → (s : WrittenScript) → ¬ IsScript bytes.now s) }

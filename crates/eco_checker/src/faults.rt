@@ -1,8 +1,8 @@
 //! What keeps a value from being a script.
 
-ghost use Rattle.std.specs.Prelude.{◌≡◌, ◌↔◌, [], is_some, map, unwrap_or, IfOk, IsTrue};
+ghost use Rattle.std.specs.Prelude.{◌≡◌, ◌↔◌, [], ◌∷◌, is_some, map, unwrap_or, IfOk, IsTrue};
 ghost use Rattle.serde_json.specs.View.{view};
-ghost use Rattle.eco_steps.specs.Decode.{list_in, parts_in, step_in};
+ghost use Rattle.eco_steps.specs.Decode.{list_in, parts_in, parts_of, step_in};
 ghost use Rattle.eco_steps.specs.Script.{WrittenScript, IsScriptData};
 ghost use Rattle.eco_checker.specs.Faults.{edition_in, items_in, numbers_without};
 
@@ -25,24 +25,31 @@ pub struct Faults<'a> {
     pub steps: Vec<usize>,
 }
 
-// Whether a value has the three parts of a script.
-fn has_parts(value: &Value) -> bool
-    ensures { result ≡ is_some (parts_in (view value.now)) }
-{
-    let Some([version, limit, steps]) = read_list(value) else {
-        return false;
-    };
-    let Some(edition) = read_version(version) else {
-        return false;
-    };
-    read_limit(edition, limit).is_some() && read_list(steps).is_some()
-}
-
 // The items of a list, and none of anything else.
 fn items_of(value: &Value) -> &[Value]
     ensures { map view result.now ≡ unwrap_or (list_in (view value.now)) [] }
 {
     read_list(value).unwrap_or(&[])
+}
+
+// Whether three values are the parts of a script.
+fn are_parts(version: &Value, limit: &Value, steps: &Value) -> bool
+    ensures { result ≡ is_some (parts_of (view version.now ∷ view limit.now ∷ view steps.now ∷ [])) }
+{
+    match read_version(version) {
+        Some(edition) => read_limit(edition, limit).is_some() && read_list(steps).is_some(),
+        None => false,
+    }
+}
+
+// Whether a value has the three parts of a script.
+fn has_parts(value: &Value) -> bool
+    ensures { result ≡ is_some (parts_in (view value.now)) }
+{
+    match read_list(value) {
+        Some([version, limit, steps]) => are_parts(version, limit, steps),
+        _ => false,
+    }
 }
 
 // The items of the list of steps.

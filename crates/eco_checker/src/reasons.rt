@@ -2,7 +2,7 @@
 
 use crate::form::{Argument, Form, script_form};
 use crate::kind::Kind;
-use crate::shown::{ARGUMENT_WIDTH, push_value};
+use crate::shown::{ARGUMENT_WIDTH, plural, push_value};
 use crate::vocabulary::Vocabulary;
 use eco_ids::Edition;
 use eco_steps::{read_list, read_version, read_words};
@@ -39,31 +39,42 @@ fn push_unknown(
     }
 }
 
+// Adds the words for the arguments, in brackets, if there are some.
+fn push_roles(text: &mut String, arguments: &[Argument]) -> Result<(), AllocError> {
+    let Some((first, others)) = arguments.split_first() else {
+        return Ok(());
+    };
+    let role = first.role;
+    write!(text, " ({role}")?;
+    for argument in others {
+        let role = argument.role;
+        write!(text, ", {role}")?;
+    }
+    text.push_str(")")
+}
+
 // Adds that there are not as many arguments as the word takes.
 fn push_count(text: &mut String, word: &str, form: Form, given: usize) -> Result<(), AllocError> {
     let count = form.arguments.len();
     let none = if form.may_take_none { "0 or " } else { "" };
-    let plural = if count == 1 { "" } else { "s" };
+    let plural = plural(count);
     write!(text, "\"{word}\" takes {none}{count} argument{plural}")?;
-    for (place, argument) in form.arguments.iter().enumerate() {
-        let separator = if place == 0 { " (" } else { ", " };
-        let role = argument.role;
-        write!(text, "{separator}{role}")?;
-    }
-    let end = if count == 0 { "" } else { ")" };
-    write!(text, "{end}, not {given}")
+    push_roles(text, form.arguments)?;
+    write!(text, ", not {given}")
 }
 
-// Adds what an argument has to be, and what it is.
+// Adds what an argument has to be, and what it is, behind a semicolon where something stands in front.
 fn push_argument(
     alloc: Global,
     text: &mut String,
     edition: Edition,
+    is_behind: bool,
     argument: Argument,
     value: &Value,
 ) -> Result<(), AllocError> {
+    let separator = if is_behind { "; " } else { "" };
     let role = argument.role;
-    write!(text, "{role}: expected ")?;
+    write!(text, "{separator}{role}: expected ")?;
     argument.kind.push_expected(text, edition)?;
     text.push_str(", not ")?;
     push_value(alloc, text, value, ARGUMENT_WIDTH)?;
@@ -82,13 +93,12 @@ fn push_arguments(
     given: &[Value],
     mut is_behind: bool,
 ) -> Result<(), AllocError> {
-    for (value, argument) in given.iter().zip(form.arguments) {
-        if !argument.kind.fits(edition, value) {
-            if is_behind {
-                text.push_str("; ")?;
+    for (place, argument) in form.arguments.iter().enumerate() {
+        if let Some(value) = given.get(place) {
+            if !argument.kind.fits(edition, value) {
+                push_argument(alloc, text, edition, is_behind, *argument, value)?;
+                is_behind = true;
             }
-            push_argument(alloc, text, edition, *argument, value)?;
-            is_behind = true;
         }
     }
     Ok(())

@@ -2,14 +2,14 @@
 
 ghost use Rattle.std.specs.Prelude.{◌≡◌, ℕ, List, ◌++◌, [], ◌∷◌, ◌<◌, Some, OnOk, IfOk, All, codes, length, map};
 ghost use Rattle.std.specs.Prelude.{flat_map, string_bytes};
-ghost use Rattle.eco_checker.specs.Lines.{AreFaultLines, AreFaults, IsHeadLine, IsUnread, last_line, plural_end};
+ghost use Rattle.eco_checker.specs.Lines.{AreFaultLines, AreFaults, IsHeadLine, IsUnread, last_line};
 ghost use Rattle.eco_checker.specs.Lines.{unread_text};
 ghost use Rattle.eco_checker.specs.Places.{AddsLines, AddsSome, place_step, place_text};
 
 use crate::faults::Faults;
 use crate::reasons::{is_well_formed, push_head_reasons, push_reasons};
 use crate::search::{actions_not_read, commands_not_read};
-use crate::shown::{ARGUMENT_WIDTH, STEP_WIDTH, push_value};
+use crate::shown::{ARGUMENT_WIDTH, STEP_WIDTH, plural, push_value};
 use crate::vocabulary::Vocabulary;
 use eco_ids::Edition;
 use eco_steps::{read_list, read_words};
@@ -230,20 +230,31 @@ impl Lines {
         }
     }
 
+    // Adds the line of a step that is not written as its word asks.
+    fn push_ill_formed(&mut self, step: usize, value: &Value) -> Result<(), AllocError>
+        ensures { OnOk result (AddsLines step (map string_bytes self.old.lines.items)
+            (map string_bytes self.new.lines.items)) }
+    {
+        if is_well_formed(self.edition, Vocabulary::Steps, value) {
+            Ok(())
+        } else {
+            self.push_fault(Place::Step(step), Vocabulary::Steps, value)
+        }
+    }
+
     // Adds the lines of a step that is none, one at least.
     fn push_step(&mut self, step: usize, value: &Value) -> Result<(), AllocError>
         ensures { OnOk result (AddsSome step (map string_bytes self.old.lines.items)
             (map string_bytes self.new.lines.items)) }
     {
         let before = self.lines.len();
-        if !is_well_formed(self.edition, Vocabulary::Steps, value) {
-            self.push_fault(Place::Step(step), Vocabulary::Steps, value)?;
-        }
+        self.push_ill_formed(step, value)?;
         self.push_held(step, value)?;
         if self.lines.len() == before {
-            self.push_fault(Place::Step(step), Vocabulary::Steps, value)?;
+            self.push_fault(Place::Step(step), Vocabulary::Steps, value)
+        } else {
+            Ok(())
         }
-        Ok(())
     }
 
     // Adds the line of what has not the three parts of a script.
@@ -268,13 +279,6 @@ fn push_lines(text: &mut String, lines: &[String]) -> Result<(), AllocError>
         text.push_str(line.as_str())?;
     }
     Ok(())
-}
-
-// What stands behind a word where there are so many of what it names.
-fn plural(count: usize) -> &'static str
-    ensures { result.now ≡ plural_end count }
-{
-    if count == 1 { "" } else { "s" }
 }
 
 // Adds the last line.

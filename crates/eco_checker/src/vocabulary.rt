@@ -70,6 +70,25 @@ fn edits(alloc: Global, word: &str, plain: &str, known: &str) -> Result<usize, A
     Ok(edits.min(levenshtein(alloc, plain, known)?))
 }
 
+// The word of some that is nearest to another, or to that without capitals, if one is near enough.
+fn nearest_of(
+    alloc: Global,
+    words: &'static [&'static str],
+    word: &str,
+    plain: &str,
+) -> Result<Option<&'static str>, AllocError> {
+    let mut nearest = None;
+    let mut least = usize::MAX;
+    for known in words {
+        let count = edits(alloc, word, plain, known)?;
+        if count < least && count <= 1 + known.len() / 4 {
+            nearest = Some(*known);
+            least = count;
+        }
+    }
+    Ok(nearest)
+}
+
 /// Where a word stands, which says the words that there are.
 #[derive(Clone, Copy)]
 pub(crate) enum Vocabulary {
@@ -134,15 +153,6 @@ impl Vocabulary {
             return Ok(None);
         }
         let plain = without_capitals(alloc, word)?;
-        let mut nearest = None;
-        let mut least = usize::MAX;
-        for known in self.words() {
-            let count = edits(alloc, word, plain.as_str(), known)?;
-            if count < least && count <= 1 + known.len() / 4 {
-                nearest = Some(*known);
-                least = count;
-            }
-        }
-        Ok(nearest)
+        nearest_of(alloc, self.words(), word, plain.as_str())
     }
 }

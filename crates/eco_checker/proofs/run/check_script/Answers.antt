@@ -1,6 +1,19 @@
 use Rattle.eco_checker.proofs.Common.{◌≡◌, ◌∙◌, ◌++◌, ap}
-use Rattle.eco_checker.proofs.Bytes.{none_to_end, stopped_to_end, told_to_end}
+use Rattle.eco_checker.proofs.Bytes.{none_to_end, script_to_end, stopped_to_end, told_to_end}
+use Rattle.eco_checker.specs.Told.{script_line}
 use Rattle.eco_checker.proofs.run.check_script.Goals as goal
+
+pub returns-in-Ok-write_all-clause-script : goal.returns-in-Ok-write_all-clause-script
+returns-in-Ok-write_all-clause-script g c = λ _.
+    script_to_end _ _ c.in-Ok.bytes.items c.in-Ok.ensures.whole c.in-Ok.ensures.ended
+    (rw c.as_slice.ensures.value at (c.in-Ok-check_bytes.ensures.script c.if-is_script.true))
+
+pub returns-in-Ok-write_all-clause-line : goal.returns-in-Ok-write_all-clause-line
+returns-in-Ok-write_all-clause-line g c = λ _.
+    let same : c.as_bytes.result.now ≡ script_line =
+    c.as_bytes.ensures.value ∙ c.as_str.ensures.value ∙ c.in-Ok-check_bytes.ensures.line c.if-is_script.true
+    ∙ ap (λ b. b ++ script_line) c.new-text.ensures.bytes in
+    rw same at c.in-Ok-write_all.ensures.ok
 
 pub returns-in-Ok-2-clause-none : goal.returns-in-Ok-2-clause-none
 returns-in-Ok-2-clause-none g c = λ _.

@@ -1,4 +1,4 @@
-use Rattle.eco_checker.proofs.Common.{arith, ◌∙◌, ap, ◌++◌, view, command_in, command_view, unless_read}
+use Rattle.eco_checker.proofs.Common.{arith, ◌∙◌, ap, ◌++◌, map, take_all, view, command_in, command_view, numbers_without, unless_read}
 use Rattle.eco_checker.proofs.Numbers.{one_more}
 use Rattle.eco_checker.proofs.search.commands_not_read.Goals as goal
 
@@ -8,3 +8,8 @@ loop-number-preserved c =
     let added = c.in_ok-push_unless_read.ensures ∙ ap (λ b. at.numbers.items ++ unless_read b at.number) c.is_some-is_read.ensures in
     one_more (command_in c.args.edition) view command_view c.args.values.now at.number c.index-values-number.result c.read.result (omega arith)
     c.index-values-number.is c.read.ensures at.invariant added
+
+pub returns : goal.returns
+returns c =
+    c.loop-number.invariant
+    ∙ ap (λ vs. numbers_without (command_in c.args.edition) 0 (map view vs)) (take_all c.loop-number.number c.args.values.now c.loop-number-test.false)

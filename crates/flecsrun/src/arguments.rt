@@ -4,7 +4,7 @@ ghost use Rattle.std.specs.Prelude.{IfOk};
 ghost use Rattle.flecsrun.specs.Arguments.{AreGoodArguments};
 
 use clap::error::ErrorKind;
-use clap::{Arg, ArgAction, Command};
+use clap::{Arg, ArgAction, ArgMatches, Command, Error};
 use eco_script::Status;
 use std::alloc::{AllocError, Global};
 
@@ -31,6 +31,30 @@ fn command<'a>(alloc: Global) -> Result<Command<'a>, AllocError> {
         .arg(workers)
 }
 
+// What the words ask for, once they were matched.
+fn asked(matches: &ArgMatches) -> Result<Args, Status>
+    ensures { IfOk result AreGoodArguments }
+{
+    match matches.get_one::<u32>("workers") {
+        Some(workers) if (1..=64).contains(&workers) => Ok(Args::Run(workers)),
+        _ => Err(Status::BadArguments),
+    }
+}
+
+// What comes of words that were not matched: those that ask for help are among them.
+fn unmatched(alloc: Global, error: &Error) -> Result<Args, Status>
+    ensures { IfOk result AreGoodArguments }
+{
+    match error.kind() {
+        ErrorKind::DisplayHelp => match error.to_string(alloc) {
+            Ok(text) => Ok(Args::Help(text)),
+            Err(_) => Err(Status::Stopped),
+        },
+        ErrorKind::OutOfMemory => Err(Status::Stopped),
+        _ => Err(Status::BadArguments),
+    }
+}
+
 /// Reads the words of the command line, of which the first is the program's name.
 ///
 /// The error is `BadArguments` where the words ask for nothing that there is, and `Stopped` where memory was wanting.
@@ -41,15 +65,7 @@ pub fn read_arguments(alloc: Global, words: &[&str]) -> Result<Args, Status>
         return Err(Status::Stopped);
     };
     match command.try_get_matches_from(words) {
-        Ok(matches) => match matches.get_one::<u32>("workers") {
-            Some(workers) if (1..=64).contains(&workers) => Ok(Args::Run(workers)),
-            _ => Err(Status::BadArguments),
-        },
-        Err(e) if e.kind() == ErrorKind::DisplayHelp => match e.to_string(alloc) {
-            Ok(text) => Ok(Args::Help(text)),
-            Err(_) => Err(Status::Stopped),
-        },
-        Err(e) if e.kind() == ErrorKind::OutOfMemory => Err(Status::Stopped),
-        Err(_) => Err(Status::BadArguments),
+        Ok(matches) => asked(&matches),
+        Err(error) => unmatched(alloc, &error),
     }
 }

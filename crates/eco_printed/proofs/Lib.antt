@@ -1,1 +1,2 @@
 pub mod Common
+mod Parts

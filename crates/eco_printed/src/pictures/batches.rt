@@ -178,15 +178,12 @@ impl Pen<'_> {
     }
 
     // Draws all that there is to draw.
-    fn draw_frame(
-        &mut self,
-        listed: NamedSystems<'_>,
-        batches: &[Vec<usize>],
-    ) -> Result<(), AllocError> {
+    fn draw_frame(&mut self, listed: NamedSystems<'_>) -> Result<(), AllocError> {
+        let batches = sync_points(self.alloc, self.world, listed.declared)?;
         if batches.is_empty() {
             self.sheet.line(0, Ink::Faint, "no system is declared")
         } else {
-            self.draw_batches(listed, batches)
+            self.draw_batches(listed, batches.as_slice())
         }
     }
 }
@@ -200,8 +197,7 @@ pub fn batches_svg(
     world: &World,
     systems: NamedSystems<'_>,
 ) -> Result<String, AllocError> {
-    let batches = sync_points(alloc, world, systems.declared)?;
     let mut pen = Pen::new(alloc, world);
-    pen.draw_frame(systems, batches.as_slice())?;
+    pen.draw_frame(systems)?;
     pen.sheet.svg("The batches of a frame")
 }

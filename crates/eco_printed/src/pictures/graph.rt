@@ -29,11 +29,25 @@ impl Pen<'_> {
         let top = self.sheet.height();
         let width = box_end(world, entity).saturating_sub(BOX);
         self.sheet.rectangle(BOX, top.saturating_add(4), width, 18)?;
+        self.sheet.skip(HIGH);
         let foot = top.saturating_add(HIGH / 2 + FOOT);
         self.sheet
-            .text(NAME, foot, u64::MAX, Ink::Head, shown(world, entity))?;
-        self.sheet.skip(HIGH);
-        Ok(())
+            .text(NAME, foot, u64::MAX, Ink::Head, shown(world, entity))
+    }
+
+    // Draws a tie from a place to the box of a target.
+    fn draw_tie(
+        &mut self,
+        plan: &Plan,
+        from: (u64, u64),
+        target: Entity,
+    ) -> Result<(), AllocError> {
+        let (lane, at) = plan.lane_to(target);
+        let (end, foot) = (box_end(self.world, target), plan.middle_of(target));
+        self.sheet.widen(at.saturating_add(16));
+        self.sheet
+            .tie(lane, at, from, (end.saturating_add(9), foot))?;
+        self.sheet.arrow(end.saturating_add(1), foot)
     }
 
     // Draws a pair, and its tie to the target.
@@ -54,12 +68,7 @@ impl Pen<'_> {
         )?;
         self.sheet.skip(LOW);
         let left = width_of(name).saturating_add(RELATIONSHIP + 6);
-        let (lane, at) = plan.lane_to(target);
-        let (end, foot) = (box_end(self.world, target), plan.middle_of(target));
-        self.sheet.widen(at.saturating_add(16));
-        self.sheet
-            .tie(lane, at, (left, middle), (end.saturating_add(9), foot))?;
-        self.sheet.arrow(end.saturating_add(1), foot)
+        self.draw_tie(plan, (left, middle), target)
     }
 
     // Draws the pairs of an entity.
@@ -72,17 +81,23 @@ impl Pen<'_> {
         Ok(())
     }
 
-    fn draw_graph(&mut self, plan: &Plan) -> Result<(), AllocError> {
-        if plan.nodes.is_empty() {
-            return self
-                .sheet
-                .line(0, Ink::Faint, "no named entity has a pair of named ones");
-        }
+    // Draws all entities of a plan, each with its pairs.
+    fn draw_entities(&mut self, plan: &Plan) -> Result<(), AllocError> {
         for entity in plan.nodes.as_slice() {
             self.draw_node(*entity)?;
             self.draw_pairs(plan, *entity)?;
         }
         Ok(())
+    }
+
+    // Draws all that there is to draw.
+    fn draw_graph(&mut self, plan: &Plan) -> Result<(), AllocError> {
+        if plan.nodes.is_empty() {
+            self.sheet
+                .line(0, Ink::Faint, "no named entity has a pair of named ones")
+        } else {
+            self.draw_entities(plan)
+        }
     }
 }
 

@@ -63,25 +63,10 @@ pub(crate) fn place_of(list: &[Entity], entity: Entity) -> usize {
     list.binary_search(&entity).unwrap_or(0)
 }
 
-// Whether an entity is the last of a list.
-fn is_last(list: &[Entity], entity: Entity) -> bool {
-    match list.last() {
-        Some(last) => last.is(entity),
-        None => false,
-    }
-}
-
-// The entities of a list, ascending and each once.
-fn sort_once(alloc: Global, list: &mut Vec<Entity>) -> Result<(), AllocError> {
+// Puts the entities of a list in order, ascending and each once.
+fn sort_once(list: &mut Vec<Entity>) {
     list.sort_unstable();
-    let mut once = Vec::with_capacity(alloc, list.len())?;
-    for entity in list.as_slice() {
-        if !is_last(once.as_slice(), *entity) {
-            once.push(*entity)?;
-        }
-    }
-    *list = once;
-    Ok(())
+    list.dedup();
 }
 
 impl Plan {
@@ -103,39 +88,53 @@ impl Plan {
         self.lanes = self.lanes.max(end);
     }
 
+    // How high the line of an id is, 0 where it is no pair that is drawn. Makes room for its text.
+    fn measure_pair(&mut self, world: &World, id: Id) -> u64 {
+        match named_pair(world, id) {
+            Some((relationship, _)) => {
+                self.make_room(60, world, relationship);
+                LOW
+            }
+            None => 0,
+        }
+    }
+
     // How high the lines of an entity and its pairs are. Makes room for their texts.
     fn measure(&mut self, world: &World, entity: Entity) -> u64 {
         self.make_room(50, world, entity);
         let mut height = HIGH;
         for id in drawn_ids(world, entity) {
-            if let Some((relationship, _)) = named_pair(world, *id) {
-                self.make_room(60, world, relationship);
-                height = height.saturating_add(LOW);
-            }
+            height = height.saturating_add(self.measure_pair(world, *id));
         }
         height
+    }
+
+    // Finds the middle of the line of the entity at a place, which is so far from the top; how far the next one is.
+    fn place_node(&mut self, world: &World, place: usize, top: u64) -> Result<u64, AllocError> {
+        self.middles.push(top.saturating_add(HIGH / 2))?;
+        match self.nodes.get(place).copied() {
+            Some(entity) => Ok(top.saturating_add(self.measure(world, entity))),
+            None => Ok(top),
+        }
     }
 
     // Finds the middles of the lines of the entities, the first of which are so far from the top.
     fn place_nodes(&mut self, world: &World, top: u64) -> Result<(), AllocError> {
         let mut top = top;
         for place in 0..self.nodes.len() {
-            self.middles.push(top.saturating_add(HIGH / 2))?;
-            if let Some(entity) = self.nodes.get(place).copied() {
-                top = top.saturating_add(self.measure(world, entity));
-            }
+            top = self.place_node(world, place, top)?;
         }
         Ok(())
     }
 
     // Plans all.
-    fn fill(&mut self, alloc: Global, world: &World, top: u64) -> Result<(), AllocError> {
+    fn fill(&mut self, world: &World, top: u64) -> Result<(), AllocError> {
         let living = world.living()?;
         for entity in living.as_slice() {
             self.note_pairs(world, *entity)?;
         }
-        sort_once(alloc, &mut self.nodes)?;
-        sort_once(alloc, &mut self.targets)?;
+        sort_once(&mut self.nodes);
+        sort_once(&mut self.targets);
         self.place_nodes(world, top)
     }
 
@@ -147,7 +146,7 @@ impl Plan {
             targets: Vec::new(alloc),
             lanes: 0,
         };
-        plan.fill(alloc, world, top)?;
+        plan.fill(world, top)?;
         Ok(plan)
     }
 

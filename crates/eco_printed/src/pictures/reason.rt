@@ -21,41 +21,27 @@ pub(crate) enum Reason {
     },
 }
 
-// Whether a write parts its system from a later one that reads this and does nothing else. Of no reads, whether it writes traits.
+// A system that reads and writes this, and does nothing else.
+fn lone_system<'a>(query_reads: &'a [Pattern], writes: &'a [Pattern]) -> Declared<'a> {
+    Declared {
+        phase: Phase::OnUpdate,
+        query_reads,
+        body_reads: &[],
+        writes,
+        kills: false,
+    }
+}
+
+// Whether writes part their system from a later one that reads this and does nothing else. Of no reads, whether they write traits.
 fn parts(
     alloc: Global,
     world: &World,
-    write: Pattern,
+    writes: &[Pattern],
     reads: &[Pattern],
 ) -> Result<bool, AllocError> {
-    let writes = [write];
-    let nothing = Declared {
-        phase: Phase::OnUpdate,
-        query_reads: &[],
-        body_reads: &[],
-        writes: &[],
-        kills: false,
-    };
-    let writer = Declared {
-        writes: &writes,
-        ..nothing
-    };
-    let reader = Declared {
-        query_reads: reads,
-        ..nothing
-    };
-    let batches = sync_points(alloc, world, &[writer, reader])?;
+    let systems = [lone_system(&[], writes), lone_system(reads, &[])];
+    let batches = sync_points(alloc, world, &systems)?;
     Ok(batches.len() > 1)
-}
-
-// Whether a system writes traits.
-fn writes_traits(alloc: Global, world: &World, system: &Declared) -> Result<bool, AllocError> {
-    for write in system.writes {
-        if parts(alloc, world, *write, &[])? {
-            return Ok(true);
-        }
-    }
-    Ok(false)
 }
 
 // The first of some systems that writes traits.
@@ -67,7 +53,7 @@ fn first_of_traits(
 ) -> Result<Option<Reason>, AllocError> {
     for place in places {
         if let Some(system) = systems.get(*place)
-            && writes_traits(alloc, world, system)?
+            && parts(alloc, world, system.writes, &[])?
         {
             return Ok(Some(Reason::Traits(*place)));
         }
@@ -95,7 +81,7 @@ fn first_touched(
     reads: &[Pattern],
 ) -> Result<Option<Pattern>, AllocError> {
     for read in reads {
-        if parts(alloc, world, write, &[*read])? {
+        if parts(alloc, world, &[write], &[*read])? {
             return Ok(Some(*read));
         }
     }

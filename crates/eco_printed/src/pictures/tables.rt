@@ -11,17 +11,39 @@ use std::alloc::{AllocError, Global};
 // How many entities of a table are named.
 const NAMED: usize = 8;
 
-// Adds who is in a table, the first of them by their names.
-fn push_rows(text: &mut String, world: &World, entities: &[Entity]) -> Result<(), AllocError> {
-    for (place, entity) in entities.iter().take(NAMED).enumerate() {
-        text.push_str(if place == 0 { "" } else { ", " })?;
-        push_entity(text, world, *entity)?;
-    }
-    let more = entities.len().saturating_sub(NAMED);
+// Adds the name of an entity of a list, by its place there: a comma stands before each but the first.
+fn push_next(
+    text: &mut String,
+    world: &World,
+    place: usize,
+    entity: Entity,
+) -> Result<(), AllocError> {
+    text.push_str(if place == 0 { "" } else { ", " })?;
+    push_entity(text, world, entity)
+}
+
+// Adds how many more there are, if there are any.
+fn push_more(text: &mut String, more: usize) -> Result<(), AllocError> {
     if more > 0 {
-        write!(text, " and {more} more")?;
+        write!(text, " and {more} more")
+    } else {
+        Ok(())
+    }
+}
+
+// Adds the names of entities.
+fn push_names(text: &mut String, world: &World, entities: &[Entity]) -> Result<(), AllocError> {
+    for (place, entity) in entities.iter().enumerate() {
+        push_next(text, world, place, *entity)?;
     }
     Ok(())
+}
+
+// Adds who is in a table, the first of them by their names.
+fn push_rows(text: &mut String, world: &World, entities: &[Entity]) -> Result<(), AllocError> {
+    let (named, others) = entities.split_at(entities.len().min(NAMED));
+    push_names(text, world, named)?;
+    push_more(text, others.len())
 }
 
 impl Pen<'_> {

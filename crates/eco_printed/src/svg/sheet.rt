@@ -124,23 +124,29 @@ impl Sheet {
     pub fn line(&mut self, indent: u64, ink: Ink, text: &str) -> Result<(), AllocError> {
         let left = indent.saturating_add(2 * MARGIN);
         let room = (WIDTH - 2 * MARGIN).saturating_sub(left);
-        self.text(left, self.height.saturating_add(FOOT), room, ink, text)?;
+        let foot = self.height.saturating_add(FOOT);
         self.skip(LINE);
-        Ok(())
+        self.text(left, foot, room, ink, text)
+    }
+
+    // Begins the next line if a word that would begin at `left` is too wide for the rest of this one. Where the word begins.
+    fn place_word(&mut self, first: u64, left: u64, width: u64) -> u64 {
+        if left > first && left.saturating_add(width) > WIDTH - 2 * MARGIN {
+            self.skip(LINE);
+            first
+        } else {
+            left
+        }
     }
 
     /// Writes the next lines, parted where the text has a space. Each word is a text of its own.
     pub fn paragraph(&mut self, indent: u64, ink: Ink, text: &str) -> Result<(), AllocError> {
         let first = indent.saturating_add(2 * MARGIN);
-        let end = WIDTH - 2 * MARGIN;
-        let room = end.saturating_sub(first);
+        let room = (WIDTH - 2 * MARGIN).saturating_sub(first);
         let mut left = first;
         for word in text.split(' ') {
             let width = width_of(word).min(room);
-            if left > first && left.saturating_add(width) > end {
-                left = first;
-                self.skip(LINE);
-            }
+            left = self.place_word(first, left, width);
             self.text(left, self.height.saturating_add(FOOT), room, ink, word)?;
             left = left.saturating_add(width).saturating_add(LETTER);
         }

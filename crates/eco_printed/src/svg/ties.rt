@@ -34,6 +34,15 @@ impl Sheet {
         )
     }
 
+    // Draws a dot, at a place in pixels.
+    fn dot(&mut self, left: u64, middle: u64) -> Result<(), AllocError> {
+        self.draw(
+            "<circle r=\"3",
+            &[("\" cx=\"", left), ("\" cy=\"", middle)],
+            "\"/>\n",
+        )
+    }
+
     /// Draws a tie from one place along a lane, which is a line from top to bottom, to another, with a dot where it meets the
     /// lane. Places and the lane are in pixels; the number of the lane, from 0, says its colour.
     pub fn tie(
@@ -54,11 +63,7 @@ impl Sheet {
             ],
             "\"/>\n",
         )?;
-        self.draw(
-            "<circle r=\"3",
-            &[("\" cx=\"", at), ("\" cy=\"", from.1)],
-            "\"/>\n",
-        )
+        self.dot(at, from.1)
     }
 
     /// Draws the head of an arrow that points to the left, at a place in pixels.

@@ -1,13 +1,11 @@
 //! How much of a value is kept.
-ghost use Rattle.std.specs.Prelude.{◌≡◌, ◌≤◌, IsTrue, pos};
-ghost use Rattle.std.specs.List.{list_all};
-ghost use Rattle.std.specs.Ordering.{int_eq};
+ghost use Rattle.std.specs.Prelude.{◌≡◌, ◌≤◌, IsTrue};
 ghost use Rattle.eco_ids.specs.Data.{is_zero_past};
 ghost use Rattle.eco_ids.specs.declared.value.TheConstants.{FIELD_COUNT};
 ghost use Rattle.eco_stages.specs.Recorded.{fields_in};
 ghost use Rattle.eco_stages.specs.declared.width.Width.{Width as Widths};
 
-use eco_ids::Value;
+use eco_ids::{Value, are_zero};
 
 /// So many fields of a value are kept with a set, where those behind them are 0: so most sets take a quarter or half of
 /// the room that a whole value would take.
@@ -19,14 +17,6 @@ pub enum Width {
     Three,
     /// All eight.
     Eight,
-}
-
-// Whether all these fields are 0.
-#[inline(always)]
-fn are_zero(fields: &[i64]) -> bool
-    ensures { result ≡ list_all (λ x. int_eq x (pos 0)) fields.now }
-{
-    fields.iter().all(|field| *field == 0)
 }
 
 // Whether the fields past so many are 0.

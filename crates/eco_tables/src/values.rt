@@ -1,6 +1,6 @@
 //! The values of one id, lent to be read row by row.
 
-/// The values of one id, those of each row in the order of the rows: so many fields of each as the id has.
+/// The values of one id, a value for each row, in the order of the rows. A value has as many fields as the id's column keeps.
 #[derive(Clone, Copy)]
 pub enum Values<'a> {
     One(&'a [[i64; 1]]),

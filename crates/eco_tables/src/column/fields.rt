@@ -1,14 +1,13 @@
 //! What is done to values of one width: so many fields are kept of each, and the whole values have zeros behind them.
 ghost use Rattle.std.specs.Prelude.{◌≡◌, ◌<◌, ◌≤◌, ◌+◌, ◌-◌, ◌++◌, [], length, map, take, replicate, vec_len};
-ghost use Rattle.std.specs.Prelude.{vec_capacity, slice_index_or, slice_set, ◌∷◌, IfOk, pos};
-ghost use Rattle.std.specs.List.{list_all, swap_remove};
-ghost use Rattle.std.specs.Ordering.{int_eq};
+ghost use Rattle.std.specs.Prelude.{vec_capacity, slice_index_or, slice_set, ◌∷◌, IfOk};
+ghost use Rattle.std.specs.List.{swap_remove};
 ghost use Rattle.eco_ids.specs.Data.{is_zero_past};
 ghost use Rattle.eco_ids.specs.World.{padded, zeros};
 ghost use Rattle.eco_ids.specs.declared.value.TheConstants.{FIELD_COUNT};
 ghost use Rattle.eco_tables.specs.Column.{Fits};
 
-use eco_ids::Value;
+use eco_ids::{Value, are_zero};
 use std::alloc::AllocError;
 
 // The same fields once more.
@@ -46,14 +45,6 @@ pub(super) fn read<const N: usize>(rows: &Vec<[i64; N]>, row: usize) -> Value
     ensures fits { Fits N result }
 {
     whole(rows[row])
-}
-
-// Whether all these fields are 0.
-#[inline(always)]
-fn are_zero(fields: &[i64]) -> bool
-    ensures { result ≡ list_all (λ x. int_eq x (pos 0)) fields.now }
-{
-    fields.iter().all(|field| *field == 0)
 }
 
 // The value in a row, and whether it is zeros, which the fields that are kept tell.

@@ -1,9 +1,7 @@
 //! The calls that change a world.
-ghost use Rattle.std.specs.Prelude.{◌≡◌, ◌≤◌, ◌||◌, ◌∷◌, [], false, pos, IfErr, IfOk, IsOk, IsTrue, map, nat_le};
+ghost use Rattle.std.specs.Prelude.{◌≡◌, ◌≤◌, ◌||◌, ◌∷◌, [], false, IfErr, IfOk, IsOk, IsTrue, map, nat_le};
 ghost use Rattle.std.specs.Prelude.{option_map, Some, MatchBool, Ok, OnErr, OnOk, true};
-ghost use Rattle.std.specs.List.{list_all};
 ghost use Rattle.std.specs.Option.{option_copied};
-ghost use Rattle.std.specs.Ordering.{int_eq};
 ghost use Rattle.eco_ids.specs.declared.edition.Edition.TheVariants.{First};
 ghost use Rattle.eco_ids.specs.declared.id.Id.TheVariants.{Two};
 ghost use Rattle.eco_ids.specs.Births.{Creates, may_create, MakesComponent, may_make_component};
@@ -23,17 +21,9 @@ ghost use Rattle.eco_places.specs.Records.{record_ids, with_exchanged, with_togg
 
 use crate::world::World;
 use eco_ids::entity::{ON_DELETE, PANIC};
-use eco_ids::{Entity, Id, Refusal, TypeList, Value};
+use eco_ids::{Entity, Id, Refusal, TypeList, Value, are_zero};
 use eco_traits::{Prospect, closed_type, comes_alone, foresee, short_target};
 use std::alloc::{AllocError, Global};
-
-// Whether all these fields are 0.
-#[inline(always)]
-fn are_zero(fields: &[i64]) -> bool
-    ensures { result ≡ list_all (λ x. int_eq x (pos 0)) fields.now }
-{
-    fields.iter().all(|field| *field == 0)
-}
 
 // Whether the fields past the first `arity` are 0. Each place is written out: were it reckoned, the value would be copied first to
 // where it can be indexed, which costs more than the test.

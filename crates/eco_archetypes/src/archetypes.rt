@@ -6,7 +6,7 @@ ghost use Rattle.std.specs.FinMap.Entries.{find};
 ghost use Rattle.eco_ids.specs.declared.id.Id.{Id as Ids};
 ghost use Rattle.eco_ids.specs.declared.value.TheConstants.{FIELD_COUNT};
 ghost use Rattle.eco_ids.specs.Order.{id_cmp};
-ghost use Rattle.eco_tables.specs.Table.{TableState, entities_of, empty_table};
+ghost use Rattle.eco_tables.specs.Table.{StoresFields, TableState, entities_of, empty_table};
 ghost use Rattle.eco_tables.specs.Tables.{slot_of, table_in, row_in, SetsSlot, SetsRoom, Moves, MovesAll};
 ghost use Rattle.eco_tables.specs.Tables.{cleared, new_row, with_row, with_written, without_row, rowless_type};
 ghost use Rattle.eco_ids.specs.Fingerprint.{fingerprint};
@@ -20,7 +20,7 @@ ghost use Rattle.std.specs.Prelude.{IsTrue, drop, take};
 ghost use Rattle.eco_ids.specs.Data.{is_zero_past};
 ghost use Rattle.eco_ids.specs.Order.{has_item};
 ghost use Rattle.eco_ids.specs.declared.value.Value.{Value as Values};
-ghost use Rattle.eco_tables.specs.Runs.{IsRunOf, run_values, table_with_run};
+ghost use Rattle.eco_tables.specs.Runs.{IsLongestRun, IsRunOf, run_values, table_with_run};
 
 use eco_caches::Caches;
 use eco_entities::EntityIndex;
@@ -326,6 +326,9 @@ impl Archetypes {
         ensures within { result ≤ length sets.now }
         ensures long { All (λ s. length s.1 ≡ N) (take result sets.now) }
         ensures had { 0 < result → IsTrue (has_item id_cmp (table_in self.old slot).ids id) }
+        ensures longest { IsTrue (has_item id_cmp (table_in self.old slot).ids id)
+            → StoresFields (table_in self.old slot) id
+            → IsLongestRun (drop row (entities_of (table_in self.old slot).rows)) arity least sets.now result }
         ensures widths { KeepsWidths self.old self.new }
     {
         self.tables.set_rows(slot, row, id, sets, arity, least)

@@ -5,7 +5,11 @@ use Rattle.eco_store.proofs.Common.{MatchBool, Result, option_or, slice_get-map,
 use Rattle.eco_store.proofs.Common.{change_kept, map_state, record_in, record_of, Meets, is_out_of_memory, Record, Entity, Id, Refusal, Value, first, Place}
 use Rattle.eco_store.proofs.Common.{fields_for, need, need_in, need_of, NeedsNeverGrow, Registration, placed, Call, SetPlace, LeadsTo, fixed, TableState}
 use Rattle.eco_store.proofs.Common.{row_at, Transfer, placed_after, with_places, arity_in_store, fits_in_store, own_arity_in_store, read, record_for}
-use Rattle.eco_store.proofs.Common.{MeetsNeeds, FitsIn, lowered, zero_later}
+use Rattle.eco_store.proofs.Common.{MeetsNeeds, FitsIn, lowered, zero_later, ◌∷◌, [], length, suc, table_in, true≢false, zero}
+use Rattle.std.specs.Prelude.{pos, replicate}
+use Rattle.eco_ids.specs.Data.{is_zero_past}
+use Rattle.eco_tables.proofs.Runs.{zeros_past}
+use Rattle.eco_tables.specs.Table.{StoresFields}
 use Rattle.eco_ids.specs.declared.id.Id.TheVariants.{One, Two}
 use Rattle.eco_ids.specs.declared.value.TheConstants.{FIELD_COUNT}
 
@@ -34,6 +38,28 @@ needed w s (Two r t) = by (own_arity_in_store (read w s) r) (own_needed w s r) (
         → fields_for (option_or o (own_arity_in_store (read w s) t)) ≤ need w (Two r t)
     by None a b = omega (arith, b)
     by (Some n) a b = omega (arith, a)
+
+-- one field of 1
+abbrev one_field : Value
+one_field = record { 0 = pos 1 ∷ replicate 7 (pos 0) }
+
+one_fits : (arity : ℕ) → 1 ≤ arity → IsTrue (is_zero_past arity one_field)
+one_fits zero some = absurd (omega (arith, some))
+one_fits (suc a) some = zeros_past a 7 [] (omega arith)
+
+some_fields : (o : Option ℕ) → IsTrue ((length one_field.0 == FIELD_COUNT) && is_zero_past (unwrap_or o 0) one_field) → 1 ≤ fields_for o
+some_fields None h = absurd (true≢false (sym h))
+some_fields (Some zero) h = absurd (true≢false (sym h))
+some_fields (Some (suc m)) h = omega arith
+
+-- where a field of the id may be other than 0, the tables that have the id keep it
+pub keeps_fields : (w : Indexed Registration) (s : List (Option TableState)) (n : ℕ) (i : Id) (arity : ℕ) → MeetsNeeds (need w) s → 1 ≤ arity
+    → ((v : Value) → length v.0 ≡ FIELD_COUNT → IsTrue (is_zero_past arity v) → IsTrue (fits_in_store (read w s) i v)) → StoresFields (table_in s n) i
+keeps_fields w s n i arity covers some fits k at =
+    let least = covers.each n i k at in
+    let enough = needed w s i in
+    let one = some_fields (arity_in_store (read w s) i) (fits one_field refl (one_fits arity some)) in
+    omega (arith, least, enough, one)
 
 -- a value that fits the arity fits in the tables
 pub fits_in : (w : Indexed Registration) (s : List (Option TableState)) (i : Id) (v : Value) → MeetsNeeds (need w) s → IsTrue (fits_in_store (read w s) i v)

@@ -1,6 +1,6 @@
 -- Values that are written in rows one behind the other, as the store shows them.
 use Rattle.eco_store.proofs.Common.{◌≡◌, ℕ, ◌+◌, ◌<◌, suc, zero, List, [], ◌∷◌, length, map, take, drop, get_or, set, slice_get}
-use Rattle.eco_store.proofs.Common.{IsTrue, Option, Some, None, option_map, option_and_then, unwrap_or, is_some, All, refl, sym, ap, subst, ◌∙◌, arith}
+use Rattle.eco_store.proofs.Common.{IsTrue, Option, Some, None, option_map, option_and_then, unwrap_or, is_some, All, All-nil, ◌≤◌, refl, sym, ap, subst, ◌∙◌, arith}
 use Rattle.eco_store.proofs.Common.{drop-cons, length-drop, length-map, length-set, map-set, get_or-set_other}
 use Rattle.eco_store.proofs.Common.{get_or-set_same, get_or-take, slice_get-get_or, find}
 use Rattle.eco_store.proofs.Common.{Entity, Id, Value, Indexed, id_cmp, has_item, Record, TableState, TableRow, no_row, no_table, map_state}
@@ -10,7 +10,13 @@ use Rattle.std.specs.Prelude.{ℤ}
 use Rattle.std.proofs.lemmas.List.{get_or-drop, get_or-map, length-take, set-get_or}
 use Rattle.eco_ids.proofs.Exact.{keys_find}
 use Rattle.eco_ids.specs.World.{padded}
-use Rattle.eco_places.proofs.Seated.{held_there, place_from_seat, read_record}
+use Rattle.std.proofs.lemmas.List.Elements.{All-cons}
+use Rattle.std.proofs.lemmas.Option.{get_or_from_slice_get}
+use Rattle.eco_ids.specs.Data.{is_zero_past}
+use Rattle.eco_places.proofs.Seated.{held_there, place_from_seat, read_record, row_within, seat_there}
+use Rattle.eco_places.specs.Records.{has_in_store}
+use Rattle.eco_places.specs.Seats.{seat_of}
+use Rattle.eco_tables.specs.Tables.{row_in}
 use Rattle.eco_store.proofs.Values.{written_read, written_store}
 use Rattle.eco_store.proofs.Views.{at_each}
 use Rattle.eco_store.specs.Runs.{IsRewrite, store_with_run}
@@ -45,6 +51,34 @@ module _ (rows : List TableRow) (row : ℕ) (sets : List (Entity × List ℤ))
       ∙ get_or-take (length sets) (drop row es) k x.0 less ∙ get_or-drop row es k x.0
       ∙ get_or-map (λ (r : TableRow). r.entity) rows (row + k) no_row x.0 (within k less)
 
+-- who is placed in a row has an id exactly where the type of the rows does
+pub has_there : (w : Indexed Registration) (s : List (Option TableState)) (e : Entity) (p : Place) (i : Id) → IsStore w s → AllHaveIds s
+    → own_place w e ≡ Some p → has_in_store (read w s) e i ≡ has_item id_cmp (table_in s p.table).ids i
+has_there w s e p i store have own =
+    let held = held_there w s e p store own in
+    ap (λ o. is_some (find id_cmp i (unwrap_or (option_map (λ (y : Record). y.held) o) []))) (read_record w s e held.0 held.1)
+    ∙ ap (λ h. is_some (find id_cmp i h)) held.2 ∙ keys_find (row_in s p.table p.row).held i
+    ∙ ap (λ js. has_item id_cmp js i) (have p.table p.row no_row (row_within w s e p store own))
+
+-- a set of one who stands in a row is a run from there
+pub run_of_one : (w : Indexed Registration) (s : List (Option TableState)) (p : Place) (i : Id) (arity least : ℕ) (x : Entity × List ℤ)
+    → IsStore w s → own_place w x.0 ≡ Some p → IsRewrite (read w s) i arity least x
+    → IsRunOf (drop p.row (entities_of (rows_in s p.table))) arity least (x ∷ [])
+run_of_one w s p i arity least x store own is =
+    let rows = rows_in s p.table in
+    let es = entities_of rows in
+    let within = row_within w s x.0 p store own in
+    let seat = store.seated.there x.0.index (seat_of x.0 p.table p.row) (seat_there w x.0 p own) in
+    let here : get_or es p.row x.0 ≡ x.0 =
+    get_or-map (λ (r : TableRow). r.entity) rows p.row no_row x.0 within
+    ∙ ap (λ (r : TableRow). r.entity) (get_or_from_slice_get rows p.row seat.0 no_row seat.1) ∙ seat.2 in
+    let long : p.row < length es = let same = length-map rows (λ (r : TableRow). r.entity) in omega (arith, within, same) in
+    record {
+      entities = sym (ap (λ xs. take 1 xs) (drop-cons es p.row x.0 long) ∙ ap (λ e. e ∷ []) here);
+      ordinary = All-cons (λ y. least ≤ y.0.index) x [] is.ordinary (All-nil (λ y. least ≤ y.0.index));
+      few = All-cons (λ y. IsTrue (is_zero_past arity (padded y.1))) x [] is.few (All-nil (λ y. IsTrue (is_zero_past arity (padded y.1))));
+    }
+
 -- each is of a living entity that has the id, where the type of the rows has it
 pub rewrites : (w : Indexed Registration) (s : List (Option TableState)) (n row : ℕ) (i : Id) (arity least : ℕ) (sets : List (Entity × List ℤ))
     → IsStore w s → AllHaveIds s → IsTrue (has_item id_cmp (table_in s n).ids i) → IsRunOf (drop row (entities_of (rows_in s n))) arity least sets
@@ -62,9 +96,7 @@ rewrites w s n row i arity least sets store have typed run k x less =
     let known = read_record w s e held.0 held.1 in
     record {
       alive = ap is_some known;
-      had = ap (λ o. is_some (find id_cmp i (unwrap_or (option_map (λ (y : Record). y.held) o) []))) known
-          ∙ ap (λ h. is_some (find id_cmp i h)) held.2 ∙ keys_find r.held i
-          ∙ ap (λ js. has_item id_cmp js i) (have n (row + k) no_row here) ∙ typed;
+      had = has_there w s e p i store have own ∙ typed;
       ordinary = run.ordinary k x less;
       few = run.few k x less;
     }

@@ -39,3 +39,7 @@ pub record IsRunOf (es : List Entity) (arity least : ℕ) (sets : List (Entity �
   pub entities : map (λ s. s.0) sets ≡ take (length sets) es
   pub ordinary : All (λ s. least ≤ s.0.index) sets
   pub few : All (λ s. IsTrue (is_zero_past arity (padded s.1))) sets
+
+-- so many of the sets, from the first on, are such a run, and no more
+abbrev pub IsLongestRun : List Entity → ℕ → ℕ → List (Entity × List ℤ) → ℕ → Type 0
+IsLongestRun es arity least sets n = (m : ℕ) → m ≤ length sets → IsRunOf es arity least (take m sets) → m ≤ n

@@ -38,6 +38,10 @@ width_in t i = find id_cmp i (paired t.ids t.widths)
 abbrev pub FitsId : TableState → Id → Value → Type 0
 FitsId t i v = (n : ℕ) → width_in t i ≡ Some n → Fits n v
 
+-- of an id's values at least one field is kept, where the type has the id
+abbrev pub StoresFields : TableState → Id → Type 0
+StoresFields t i = (n : ℕ) → width_in t i ≡ Some n → 1 ≤ n
+
 -- ids that both types have are as wide in both
 abbrev pub Agree : TableState → TableState → Type 0
 Agree t u = (i : Id) (m n : ℕ) → width_in t i ≡ Some m → width_in u i ≡ Some n → m ≡ n

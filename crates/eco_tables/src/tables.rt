@@ -9,7 +9,7 @@ ghost use Rattle.eco_tables.specs.Column.{value_in, with_held};
 ghost use Rattle.std.specs.List.{All};
 ghost use Rattle.std.specs.Slice.Iter.{iter_rest};
 ghost use Rattle.eco_tables.specs.Table.{TableState, TableRow, entities_of, empty_table, Agree, FitsId, RowsHaveIds};
-ghost use Rattle.eco_tables.specs.Table.{TypeAscends};
+ghost use Rattle.eco_tables.specs.Table.{StoresFields, TypeAscends};
 ghost use Rattle.eco_tables.specs.Tables.{slot_of, table_in, row_in, no_row, SetsSlot, SetsRoom, Moves, MovesAll};
 ghost use Rattle.eco_tables.specs.Tables.{cleared, new_row, with_room, with_row, with_rows, with_written, without_row};
 ghost use Rattle.eco_tables.specs.Tables.{without_rows, no_table, rowless_type, AllAscend, AllHaveIds};
@@ -17,7 +17,7 @@ ghost use Rattle.std.specs.Prelude.{IsTrue, drop, take};
 ghost use Rattle.eco_ids.specs.Data.{is_zero_past};
 ghost use Rattle.eco_ids.specs.Order.{has_item};
 ghost use Rattle.eco_ids.specs.declared.value.Value.{Value as Values};
-ghost use Rattle.eco_tables.specs.Runs.{IsRunOf, run_values, table_with_run};
+ghost use Rattle.eco_tables.specs.Runs.{IsLongestRun, IsRunOf, run_values, table_with_run};
 
 use crate::table::Table;
 use crate::tables::lending::{table_mut, two_mut};
@@ -291,6 +291,9 @@ impl Tables {
         ensures within { result ≤ length sets.now }
         ensures long { All (λ s. length s.1 ≡ N) (take result sets.now) }
         ensures had { 0 < result → IsTrue (has_item id_cmp (table_in self.old slot).ids id) }
+        ensures longest { IsTrue (has_item id_cmp (table_in self.old slot).ids id)
+            → StoresFields (table_in self.old slot) id
+            → IsLongestRun (drop row (entities_of (table_in self.old slot).rows)) arity least sets.now result }
     {
         table_mut(&mut self.slots, slot).set_rows(row, id, sets, arity, least)
     }

@@ -1,7 +1,8 @@
 //! Values of many entities at one id.
-ghost use Rattle.std.specs.Prelude.{◌≡◌, ◌≤◌, IsTrue, length, take};
+ghost use Rattle.std.specs.Prelude.{◌≡◌, ◌<◌, ◌≤◌, ℤ, List, IsTrue, Some, length, slice_get, take};
 ghost use Rattle.std.specs.List.{All};
 ghost use Rattle.eco_ids.specs.Data.{is_zero_past};
+ghost use Rattle.eco_ids.specs.declared.entity.Entity.{Entity as Entities};
 ghost use Rattle.eco_ids.specs.declared.value.TheConstants.{FIELD_COUNT};
 ghost use Rattle.eco_ids.specs.declared.value.Value.{Value as Values};
 ghost use Rattle.eco_store.specs.Runs.{IsRewrite, store_with_run};
@@ -30,6 +31,8 @@ impl Store {
         ensures within { result ≤ length sets.now }
         ensures long { All (λ s. length s.1 ≡ N) (take result sets.now) }
         ensures rewrites { All (IsRewrite self.old.entities id arity least) (take result sets.now) }
+        ensures some { (s : Entities × List ℤ) → slice_get sets.now 0 ≡ Some s → 1 ≤ arity
+            → IsRewrite self.old.entities id arity least s → 0 < result }
     {
         let Some(set) = sets.first() else {
             return 0;

@@ -1,18 +1,17 @@
 //! Values of one id are written in many rows at once.
-ghost use Rattle.std.specs.Prelude.{◌≡◌, ◌<◌, ◌≤◌, IsTrue, drop, length, pos, take};
-ghost use Rattle.std.specs.List.{All, list_all};
-ghost use Rattle.std.specs.Ordering.{int_eq};
+ghost use Rattle.std.specs.Prelude.{◌≡◌, ◌<◌, ◌≤◌, IsTrue, drop, length, take};
+ghost use Rattle.std.specs.List.{All};
 ghost use Rattle.eco_ids.specs.Data.{is_zero_past};
 ghost use Rattle.eco_ids.specs.Order.{has_item, id_cmp};
 ghost use Rattle.eco_ids.specs.World.{padded};
 ghost use Rattle.eco_ids.specs.declared.value.TheConstants.{FIELD_COUNT};
 ghost use Rattle.eco_ids.specs.declared.value.Value.{Value as Values};
-ghost use Rattle.eco_tables.specs.Runs.{IsRunOf, run_values, table_with_run};
-ghost use Rattle.eco_tables.specs.Table.{FitsId, entities_of};
+ghost use Rattle.eco_tables.specs.Runs.{IsLongestRun, IsRunOf, run_values, table_with_run};
+ghost use Rattle.eco_tables.specs.Table.{FitsId, StoresFields, entities_of};
 
 use crate::columns::find_column;
 use crate::table::Table;
-use eco_ids::{Entity, Id};
+use eco_ids::{Entity, Id, are_zero};
 
 // Whether the fields past so many are 0.
 #[inline(always)]
@@ -27,14 +26,6 @@ fn has_few<const N: usize>(fields: &[i64; N], arity: u8) -> bool
     }
     let whole = &fields[..];
     are_zero(&whole[count..])
-}
-
-// Whether all these fields are 0.
-#[inline(always)]
-fn are_zero(fields: &[i64]) -> bool
-    ensures { result ≡ list_all (λ x. int_eq x (pos 0)) fields.now }
-{
-    fields.iter().all(|field| *field == 0)
 }
 
 // The entities from a row on.
@@ -59,6 +50,7 @@ fn count_rows<const N: usize>(
     ensures rows { result ≤ length entities.now }
     ensures sets { result ≤ length sets.now }
     ensures long { All (λ s. length s.1 ≡ N) (take result sets.now) }
+    ensures longest { IsLongestRun entities.now arity least sets.now result }
 {
     let most = if sets.len() < entities.len() {
         sets.len()
@@ -98,6 +90,8 @@ impl Table {
         ensures within { result ≤ length sets.now }
         ensures long { All (λ s. length s.1 ≡ N) (take result sets.now) }
         ensures had { 0 < result → IsTrue (has_item id_cmp self.old.ids id) }
+        ensures longest { IsTrue (has_item id_cmp self.old.ids id) → StoresFields self.old id
+            → IsLongestRun (drop row (entities_of self.old.rows)) arity least sets.now result }
     {
         let Some(place) = find_column(self.columns.as_slice(), id) else {
             return 0;

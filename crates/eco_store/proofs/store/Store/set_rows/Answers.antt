@@ -1,10 +1,14 @@
-use Rattle.eco_store.proofs.Common.{◌<◌, ◌≤◌, ap, arith, length, no_table, take, unwrap_or, ◌∙◌, all_staying}
+use Rattle.eco_store.proofs.Common.{◌≡◌, ◌<◌, ◌≤◌, ◌∷◌, [], List, Some, ap, arith, length, no_table, subst, sym, take, unwrap_or, ◌∙◌, all_staying}
+use Rattle.eco_store.proofs.Common.{Entity, own_place, read, slice_get_within, take_more}
+use Rattle.std.specs.Prelude.{ℤ}
+use Rattle.std.proofs.lemmas.Option.{get_or_from_slice_get}
 use Rattle.std.specs.Prelude.{◌*◌}
 use Rattle.std.proofs.lemmas.List.{length-take}
 use Rattle.eco_store.proofs.LaidRows.{sets_rows}
-use Rattle.eco_store.proofs.Needing.{fits_in}
+use Rattle.eco_store.proofs.Needing.{fits_in, keeps_fields}
 use Rattle.eco_store.proofs.Rowless.{rowless_rewritten}
-use Rattle.eco_store.proofs.Runs.{length_run, rewrites, run_written}
+use Rattle.eco_store.proofs.Runs.{has_there, length_run, rewrites, run_of_one, run_written}
+use Rattle.eco_store.specs.Runs.{IsRewrite}
 use Rattle.eco_store.proofs.store.Store.set_rows.Goals as goal
 use Rattle.eco_tables.specs.Runs.{run_values}
 
@@ -59,3 +63,22 @@ returns-clause-rewrites g c = λ k x less.
     rw (← c.self.view_is)
     (rewrites l.entities l.archetypes p.table p.row c.args.id c.args.arity c.args.least (take c.set_rows.result c.args.sets.now)
     c.self.invariant.laid.store (rw c.tables.ensures.same at c.rows_have_ids.ensures) some c.set_rows.ensures.run k x less)
+
+pub returns-clause-some : goal.returns-clause-some
+returns-clause-some g c = λ x first wide is.
+    let l = c.self.inside.layout in
+    let p = c.place_of-place.result in
+    let store = c.self.invariant.laid.store in
+    let shown : IsRewrite (read l.entities l.archetypes) c.args.id c.args.arity c.args.least x = rw (← c.self.view_is) at is in
+    let same : c.in-Some.set.now ≡ x = c.in-Some.ensures.item.1 ∙ get_or_from_slice_get c.args.sets.now 0 x c.in-Some.set.now first in
+    let own : own_place l.entities x.0 ≡ Some p = subst (λ (y : Entity × List ℤ). own_place l.entities y.0 ≡ Some p) same c.place_of-place.ensures.own in
+    let keeps =
+    keeps_fields l.entities l.archetypes p.table c.args.id c.args.arity c.self.invariant.laid.covers wide (rw (← c.self.view_is) at c.requires.fits) in
+    let have = rw c.tables.ensures.same at c.rows_have_ids.ensures in
+    let typed = sym (has_there l.entities l.archetypes x.0 p c.args.id store have own) ∙ shown.had in
+    let within = slice_get_within c.args.sets.now 0 x first in
+    let one : take 1 c.args.sets.now ≡ x ∷ [] =
+    take_more c.args.sets.now 0 x within ∙ ap (λ y. y ∷ []) (get_or_from_slice_get c.args.sets.now 0 x x first) in
+    let run = run_of_one l.entities l.archetypes p c.args.id c.args.arity c.args.least x store own shown in
+    let most = c.set_rows.ensures.longest typed keeps 1 within (rw one run) in
+    omega (arith, most)

@@ -1,9 +1,10 @@
 use Rattle.eco_tables.proofs.Common.{◌≡◌, ◌<◌, ◌≤◌, ◌∙◌, ap, arith, drop, kind_of, length, length-map, map, padded, slice_get, subst, sym, take, refl}
 use Rattle.eco_tables.proofs.Common.{ColumnState, Fits, Some}
 use Rattle.std.specs.Prelude.{◌*◌}
-use Rattle.eco_tables.specs.Runs.{IsRunOf, run_values}
+use Rattle.eco_tables.specs.Runs.{IsLongestRun, IsRunOf, run_values}
+use Rattle.eco_tables.specs.Table.{width_in}
 use Rattle.eco_tables.proofs.Held.{has_place, place_within}
-use Rattle.eco_tables.proofs.Rows.{ascends, column_width, within_ids}
+use Rattle.eco_tables.proofs.Rows.{ascends, column_width, widthless_in, within_ids}
 use Rattle.eco_tables.proofs.Runs.{FitsKinds, run_values_all, run_within, shape_ran, table_ran}
 use Rattle.eco_tables.proofs.Shapes.{entities_of_all, row_within}
 use Rattle.eco_tables.proofs.table.Table.set_rows.Goals as goal
@@ -85,3 +86,19 @@ returns-clause-had g c = λ some.
     rw (← c.self.view_is)
     (within_ids c.self.inside.type_list c.self.inside.columns.items c.self.invariant.kinds c.args.id
     (has_place c.self.inside.columns.items c.in-Some.place c.args.id (rw c.as_slice.ensures.value at c.in-Some.ensures.found)))
+
+pub returns-in_default-clause-longest : goal.returns-in_default-clause-longest
+returns-in_default-clause-longest g c = λ there wide.
+    let own = c.self.inside in
+    let narrow : width_in c.args.self.now c.args.id ≡ Some 0 =
+    rw (← c.self.view_is)
+    (widthless_in own.type_list own.columns.items c.self.invariant.kinds c.args.id (rw (← c.self.view_is) at there)
+    (rw c.as_slice.ensures.value at c.in_default.ensures.absent)) in
+    absurd (let bad = wide 0 narrow in omega (arith, bad))
+
+pub returns-clause-longest : goal.returns-clause-longest
+returns-clause-longest g c =
+    let own = c.self.inside in
+    rw (← c.self.view_is, entities_of_all own.type_list own.columns.items own.entities.items)
+    (λ there wide. subst (λ es. IsLongestRun es c.args.arity c.args.least c.args.sets.now c.count_rows-count.result)
+    (c.entities_from-entities.ensures ∙ ap (drop c.args.row) c.as_slice-2.ensures.value) c.count_rows-count.ensures.longest)

@@ -38,3 +38,8 @@ pub returns-clause-had : goal.returns-clause-had
 returns-clause-had g c =
     let own = own_is _ _ c.args.slot _ c.self.view_is c.table_mut.ensures.value in
     rw (← own) c.set_rows.ensures.had
+
+pub returns-clause-longest : goal.returns-clause-longest
+returns-clause-longest g c =
+    let own = own_is _ _ c.args.slot _ c.self.view_is c.table_mut.ensures.value in
+    rw (← own) c.set_rows.ensures.longest

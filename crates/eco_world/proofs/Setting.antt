@@ -3,7 +3,10 @@ use Rattle.eco_world.proofs.Common.{◌≡◌, ℕ, Bool, MatchBool, sym, subst,
 use Rattle.eco_world.proofs.Common.{is_some, true, false, refl}
 use Rattle.eco_world.proofs.Common.{◌∙◌, if◌then◌else◌, option_or, Entity, Id, One, Two, Refusal, NotAlive, Reserved, DeadId, NotData, TooWide}
 use Rattle.eco_world.proofs.Common.{Value, is_builtin, arity, arity_of, fits, first_refusal, changed, is_reserved, with_value, WorldState, Record, is_alive}
-use Rattle.eco_world.proofs.Common.{names_living, changed_each, MayNotSet, IsSettable, IsUnsettable}
+use Rattle.eco_world.proofs.Common.{names_living, changed_each, MayNotSet, IsSettable, IsUnsettable, ap}
+use Rattle.std.specs.Prelude.{IfErr, IfOk, Result, Ok, Err}
+use Rattle.std.specs.Result.{result_ok}
+use Rattle.eco_world.specs.Setting.{fields_at}
 
 module _ (w : WorldState) (e : Entity) (i : Id) (v : Value) where
   alive_alike : (x : Entity) → is_alive (changed w e (with_value i v)) x ≡ is_alive w x
@@ -46,6 +49,23 @@ module _ (w : WorldState) (e : Entity) (i : Id) (v : Value) where
   known_kept w2 known is false eq = subst (λ x. IfSome known (IsSettable x i)) (sym eq) is
 
   pub others_kept : (w2 : WorldState) (had : Bool) → MatchBool had (w2 ≡ changed w e (with_value i v)) (w2 ≡ w)
-      → (j : Id) (fields : ℕ) → IsSettable w j fields → IsSettable w2 j fields
-  others_kept w2 true eq j fields is = subst (λ x. IsSettable x j fields) (sym eq) (settable_still j fields is)
-  others_kept w2 false eq j fields is = subst (λ x. IsSettable x j fields) (sym eq) is
+      → (j : Id) → fields_at w2 j ≡ fields_at w j
+  others_kept w2 true eq j = ap (λ x. fields_at x j) eq ∙ (λ k. if living_alike j k then fields_alike j k else None)
+  others_kept w2 false eq j = ap (λ x. fields_at x j) eq
+
+module _ (w : WorldState) (i : Id) where
+  fields_settable : (fields : ℕ) → IsSettable w i fields → fields_at w i ≡ Some fields
+  fields_settable fields is = ap (λ b. if b then arity w i else None) is.living ∙ is.has_fields
+
+  no_fields : (why : Refusal) → IsUnsettable w i why → fields_at w i ≡ None
+  no_fields why is = by (names_living w i) (arity w i) (is.first [])
+    where
+      by : (b : Bool) (o : Option ℕ) → first_refusal ((not b, DeadId) ∷ (not (is_some o), NotData) ∷ []) ≡ Some why → (if b then o else None) ≡ None
+      by false o first = refl
+      by true None first = refl
+      by true (Some n) first = absurd (cc)
+
+  -- who is told how many fields the id has, or why it has none, knows how many it has
+  pub told_exactly : (r : Result ℕ Refusal) → IfOk r (IsSettable w i) → IfErr r (IsUnsettable w i) → result_ok r ≡ fields_at w i
+  told_exactly (Ok fields) ok err = sym (fields_settable fields ok)
+  told_exactly (Err why) ok err = sym (no_fields why err)

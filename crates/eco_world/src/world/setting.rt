@@ -1,12 +1,12 @@
 //! Sets of values, also of many at one id.
-ghost use Rattle.std.specs.Prelude.{◌≡◌, ◌≤◌, ℕ, IfErr, IfOk, IfSome, IsFalse, IsTrue, Ok, OnOk};
+ghost use Rattle.std.specs.Prelude.{◌≡◌, ◌≤◌, IfErr, IfOk, IfSome, IsFalse, IsTrue, None, Ok, OnOk};
 ghost use Rattle.eco_ids.specs.Outcome.{Meets};
 ghost use Rattle.eco_ids.specs.Step.{Sets, may_set};
 ghost use Rattle.eco_ids.specs.World.{padded};
 ghost use Rattle.eco_ids.specs.declared.id.Id.{Id as Ids};
 ghost use Rattle.eco_ids.specs.declared.value.TheConstants.{FIELD_COUNT};
 ghost use Rattle.eco_world.specs.Actor.{MaySet, MayNotSet};
-ghost use Rattle.eco_world.specs.Setting.{IsSettable, IsUnsettable};
+ghost use Rattle.eco_world.specs.Setting.{IsSettable, IsThere, IsUnsettable, fields_at};
 
 use crate::world::World;
 use crate::world::changes::is_zero_past;
@@ -55,9 +55,9 @@ impl World {
         ensures met { IsTrue result → Meets (Sets self.old entity id value) (may_set self.old entity id value)
             self.old (Ok tt) self.new }
         ensures known { IfSome known (IsSettable self.new id) }
-        ensures others { (other : Ids) (fields : ℕ) → IsSettable self.old other fields
-            → IsSettable self.new other fields }
+        ensures others { (other : Ids) → fields_at self.new other ≡ fields_at self.old other }
         ensures same { IsFalse result → self.new ≡ self.old }
+        ensures no { IsFalse result → IsThere self.old entity id value → known ≡ None }
     {
         eco_ids::laws::steps_keep_lawful();
         self.is_lawful();
@@ -71,7 +71,8 @@ impl World {
     #[inline(always)]
     fn may_rewrite(&self, known: Option<u8>, entity: Entity, id: Id, value: Value) -> bool
         requires { IfSome known (IsSettable self.now id) }
-        ensures { IsTrue result → MaySet self.now entity id value }
+        ensures yes { IsTrue result → MaySet self.now entity id value }
+        ensures no { IsFalse result → MaySet self.now entity id value → known ≡ None }
     {
         let Some(arity) = known else {
             return false;

@@ -4,7 +4,7 @@ ghost use Rattle.eco_ids.specs.declared.value.TheConstants.{FIELD_COUNT};
 ghost use Rattle.eco_stages.specs.Merging.{AreDone};
 ghost use Rattle.eco_stages.specs.Recorded.{in_turn};
 ghost use Rattle.eco_stages.specs.declared.recorded.TheConstants.{MOST_IN_TURN};
-ghost use Rattle.eco_world.specs.Setting.{AreSettable};
+ghost use Rattle.eco_world.specs.Setting.{AreSettable, StopsAt};
 
 use crate::world::World;
 use crate::world::merging::{APART, sets_from};
@@ -62,6 +62,7 @@ impl World {
         ensures within { result ≤ length sets.now }
         ensures done { AreDone self.old (in_turn ids.now first (take result sets.now))
             outcomes.old outcomes.new self.new }
+        ensures stop { StopsAt self.new ids.now first sets.now result }
     {
         commands_are_done_in_turn();
         sets_come_in_turn();

@@ -5,7 +5,7 @@ use Rattle.eco_world.proofs.world.World.rewrite.Goals as goal
 
 pub write-requires-clause-lawful : goal.write-requires-clause-lawful
 write-requires-clause-lawful c =
-    lawful_there c.args.self.now c.args.entity c.args.id c.args.value (c.if-not-may_rewrite.ensures refl) c.is_lawful.ensures
+    lawful_there c.args.self.now c.args.entity c.args.id c.args.value (c.if-not-may_rewrite.ensures.yes refl) c.is_lawful.ensures
     (c.steps_keep_lawful.ensures.set c.args.entity c.args.id c.args.value)
 
 pub returns-clause-known : goal.returns-clause-known

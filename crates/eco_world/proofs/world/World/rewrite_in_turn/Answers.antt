@@ -1,4 +1,4 @@
-use Rattle.eco_world.proofs.Common.{◌≡◌, ◌+◌, ◌++◌, ◌∷◌, [], ℕ, IfSome, IsSettable, None, Ok, One, Option, Some, ap, arith, get_or, length}
+use Rattle.eco_world.proofs.Common.{◌≡◌, ◌+◌, ◌++◌, ◌∷◌, [], Ok, One, ap, arith, get_or, length}
 use Rattle.eco_world.proofs.Common.{length-take-le, sym, take, ◌∙◌}
 use Rattle.std.specs.Prelude.{◌%◌}
 use Rattle.eco_ids.specs.Run.{Set}
@@ -24,11 +24,6 @@ push-requires g c =
       c.requires.room,
     )
 
--- what is so of a number is so of one that may be there
-so : (P Q : ℕ → Type 0) (o : Option ℕ) → ((n : ℕ) → P n → Q n) → IfSome o P → IfSome o Q
-so P Q (Some n) then is = then n is
-so P Q None then is = tt
-
 pub loop-k-preserved : goal.loop-k-preserved
 loop-k-preserved g c =
     let laws = c.commands_are_done_in_turn.ensures in
@@ -52,7 +47,6 @@ loop-k-preserved g c =
           (laws.both c.args.self.now c.loop-k.self new (in_turn ids c.args.first (take k sets)) (Set set.0 i c.of-value.result ∷ []) c.args.outcomes.now
           c.loop-k.outcomes c.push.new.self c.loop-k.invariant.are_done one);
       known =
-          λ j less. so (IsSettable c.loop-k.self (get_or ids j (One CHILD_OF))) (IsSettable new (get_or ids j (One CHILD_OF)))
-          (get_or c.args.known.now j None) (c.rewrite.ensures.others (get_or ids j (One CHILD_OF))) (c.loop-k.invariant.known j less);
+          λ j less. c.loop-k.invariant.known j less ∙ sym (c.rewrite.ensures.others (get_or ids j (One CHILD_OF)));
       turn = c.next_in_turn-turn.ensures n c.loop-k.invariant.turn ∙ ap (λ m. m % length ids) on;
     }

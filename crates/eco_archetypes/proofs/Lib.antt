@@ -1,7 +1,9 @@
 pub mod Common
+pub mod Alone
 pub mod ArchetypeLemmas
 pub mod Cached
 pub mod Copying
+pub mod Filtering
 pub mod Makings
 pub mod Searching
 pub mod Turnings

@@ -2,7 +2,7 @@
 use Rattle.eco_archetypes.proofs.Common.{◌≡◌, ◌≢◌, ◌||◌, ℕ, List, ◌∷◌, Option, None, Some, OnSome, IfNone, IsSome, option_map}
 use Rattle.eco_archetypes.proofs.Common.{unwrap_or, is_some, nat_eq, refl, subst, sym, ap, ◌∙◌, inl, inr, list_any, cases_eq, Decides-eqb, Id, TableState}
 use Rattle.eco_archetypes.proofs.Common.{empty_table, slot_of, no_table, rowless_type, SetsSlot, SetsRoom, type_at, KeepsTypes, RowlessIn, SameRows, SameSlots}
-use Rattle.eco_archetypes.proofs.Common.{table_in, with_room}
+use Rattle.eco_archetypes.proofs.Common.{table_in, with_room, KeepsRoom, arith}
 use Rattle.eco_ids.proofs.Lists.{not_equal}
 use Rattle.eco_archetypes.proofs.ArchetypeLemmas.{same_rows, sets_types}
 
@@ -25,6 +25,10 @@ module _ (s s' : List (Option TableState)) (n : ℕ) (slots : List ℕ) (slot : 
         | inr other ↦ was m (sym (ap (λ o. is_some (rowless_type o)) (sets.others m other)) ∙ empty)
       ]
 
+-- no table changes
+pub rowless_same : (s s' : List (Option TableState)) → SameSlots s s' → (slots : List ℕ) → RowlessIn s slots → RowlessIn s' slots
+rowless_same s s' same slots was m empty = was m (sym (ap (λ o. is_some (rowless_type o)) (same m)) ∙ empty)
+
 -- a table comes to a slot that was empty
 module _ (s s' : List (Option TableState)) (n : ℕ) (ids : List Id) (ws : List ℕ) (vacant : slot_of s n ≡ None)
     (sets : SetsSlot s s' n (Some (empty_table ids ws))) where
@@ -46,6 +50,19 @@ module _ (s s' : List (Option TableState)) (n : ℕ) (ids : List Id) (ws : List 
   module _ (s2 : List (Option TableState)) (room : SetsRoom s' s2 n) where
     room_types : (k : ℕ) → type_at s2 k ≡ type_at s' k
     room_types = sets_types s' s2 n _ room made_there refl
+
+    pub made_typed : type_at s2 n ≡ Some ids
+    made_typed = room_types n ∙ ap (option_map (λ (t : TableState). t.ids)) sets.changed
+
+    pub made_roomier : KeepsRoom s s2
+    made_roomier k = elim (cases_eq k n) [
+      | inl here ↦
+          let none : (table_in s k).room ≡ 0 = ap (λ j. (table_in s j).room) here ∙ ap (λ o. (unwrap_or o no_table).room) vacant in
+          omega (arith, none)
+      | inr other ↦
+          let same : (table_in s2 k).room ≡ (table_in s k).room = ap (λ o. (unwrap_or o no_table).room) (room.others k other ∙ sets.others k other) in
+          omega (arith, same)
+    ]
 
     pub roomy_types : KeepsTypes s s2
     roomy_types k own had = room_types k ∙ made_types k own had

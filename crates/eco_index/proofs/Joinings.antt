@@ -2,8 +2,8 @@
 use Rattle.eco_index.proofs.Common.{◌≡◌, ℕ, ◌+◌, ◌<◌, length, take, get_or, Bool, true, false, cond, not, ◌&&◌, ◌||◌, List, []}
 use Rattle.eco_index.proofs.Common.{◌∷◌, nat_eq, refl, sym, ap, ◌∙◌, true≢false, list_any, Decides-eqb, Entity, Id, One, Two, entity_eq, Pattern}
 use Rattle.eco_index.proofs.Common.{Key, Single, Pair, Relationship, Target, AnyPair, same_key, key_of, keys_of, pattern_of, has_key, has_one, has_own, is_own}
-use Rattle.eco_index.proofs.Common.{matches_id, any_matches, is_listed, lists_of, Lists, Turns, Slots, HashMap}
-use Rattle.eco_index.proofs.Keys.{keys_same, key_matches, or_false, turned_more, turned_twice, turns_as}
+use Rattle.eco_index.proofs.Common.{matches_id, any_matches, is_listed, lists_of, Lists, Turns, KeepsRest, Slots, HashMap}
+use Rattle.eco_index.proofs.Keys.{keys_same, key_matches, or_false, or_left, or_right, turned_more, turned_twice, turns_as}
 
 key_of-pattern : (k : Key) → key_of (pattern_of k) ≡ k
 key_of-pattern (Single e) = refl
@@ -92,6 +92,13 @@ turns_both v k ks l l1 l2 slot one rest p n =
 
 pub turns_last : (v : Bool) (k : Key) (l l' : Lists) (slot : ℕ) → Turns v (has_key k) l l' slot → Turns v (has_one (k ∷ [])) l l' slot
 turns_last v k l l' slot = turns_as v (has_key k) (has_one (k ∷ [])) l l' slot (λ p. sym (or_false (has_key k p)))
+
+-- one key more, and then others of which one was refused
+pub keeps_both : (k : Key) (ks : List Key) (l l1 l2 : Lists) (slot : ℕ) → Turns true (has_key k) l l1 slot → KeepsRest (has_one ks) l1 l2 slot
+    → KeepsRest (has_one (k ∷ ks)) l l2 slot
+keeps_both k ks l l1 l2 slot one rest p n other =
+    rest p n (or_right (has_key k p) (has_one ks p) (nat_eq slot n) other) ∙ one p n
+    ∙ ap (λ b. cond b true (l p n)) (or_left (has_key k p) (has_one ks p) (nat_eq slot n) other)
 
 -- one more turn of a loop that takes off what no other id needs
 pub own_more : (keys : List Key) (others : List Id) (i : ℕ) (d : Key) (slot : ℕ) (l0 l l' : Lists) → i < length keys

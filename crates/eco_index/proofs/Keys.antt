@@ -98,6 +98,16 @@ module _ {S : Type 0} (m m' : HashMap Key Slots S) (k : Key) (o : Option Slots)
       by true same = none (ap (may_be_kept marks) (keys_same k q same) ∙ unmarked)
       by false other = were q unmarked
 
+-- a key that is not kept lists no slot that might go
+pub none_listed : {S : Type 0} (m : HashMap Key Slots S) (k : Key) (slot : ℕ) → get same_key m k ≡ None
+    → Turns false (has_key k) (lists_of m) (lists_of m) slot
+none_listed m k slot none p n = by (has_key k p) refl (nat_eq slot n)
+  where
+    by : (a : Bool) → has_key k p ≡ a → (b : Bool) → lists_of m p n ≡ cond (a && b) false (lists_of m p n)
+    by false other b = refl
+    by true same false = refl
+    by true same true = ap (λ q. is_listed m q n) (sym (keys_same k (key_of p) same)) ∙ ap (λ o. has_slot o n) none
+
 -- more marks do no harm
 pub more_marks : {S : Type 0} (old new : Marks) (m : HashMap Key Slots S) → KeepsMarks old new → AreMarked old m → AreMarked new m
 more_marks old new m keeps were k unmarked = by (may_be_kept old k) refl
@@ -201,11 +211,11 @@ turned_twice true false false v x = refl
 turned_twice false true false v x = refl
 turned_twice false false false v x = refl
 
-or_left : (a b s : Bool) → ((a || b) && s) ≡ false → (a && s) ≡ false
+pub or_left : (a b s : Bool) → ((a || b) && s) ≡ false → (a && s) ≡ false
 or_left true b s e = e
 or_left false b s e = refl
 
-or_right : (a b s : Bool) → ((a || b) && s) ≡ false → (b && s) ≡ false
+pub or_right : (a b s : Bool) → ((a || b) && s) ≡ false → (b && s) ≡ false
 or_right true true s e = e
 or_right true false s e = refl
 or_right false b s e = e

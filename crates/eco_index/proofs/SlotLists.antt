@@ -1,12 +1,14 @@
 -- Lists of slots whose places are kept.
 use Rattle.eco_index.proofs.Common.{◌≡◌, ℕ, zero, suc, ◌+◌, ◌<◌, Bool, true, false, cond, ◌||◌, nat_eq, List, [], ◌∷◌}
 use Rattle.eco_index.proofs.Common.{◌++◌, ◌&&◌, ◌-◌, length, get_or, refl, sym, ap, ◌∙◌, arith, list_any, AllByRecursion, Decides-eqb}
-use Rattle.eco_index.proofs.Common.{true≢false}
+use Rattle.eco_index.proofs.Common.{true≢false, ◌≢◌, set, inl, inr, cases_lt, length-set}
 use Rattle.std.proofs.lemmas.Grind.{get_or_default_zero}
-use Rattle.std.proofs.lemmas.List.Folds.{list_any-append, list_any_more}
-use Rattle.eco_index.proofs.Common.{if◌then◌else◌, take}
+use Rattle.std.proofs.lemmas.List.{get_or-set_other, get_or-set_same, get_or_append_left, get_or_push, length_push}
+use Rattle.std.proofs.lemmas.List.Folds.{list_any-append, list_any_at, list_any_more}
+use Rattle.eco_index.proofs.Common.{if◌then◌else◌, take, ◌≤◌}
+use Rattle.eco_ids.proofs.Lists.{get_or-swap_remove, length-swap_remove}
 use Rattle.eco_index.proofs.Keys.{or_false}
-use Rattle.eco_index.specs.SlotList.{LeadToPlaces}
+use Rattle.eco_index.specs.SlotList.{KeepsPlaces, LeadToPlaces}
 use Rattle.std.specs.List.{IsDistinct, swap_remove}
 use Rattle.std.specs.List.Sorted.{IsPermutation}
 use Rattle.std.proofs.lemmas.List.Sorted.{IsPermutation-swap_remove, list_any-IsPermutation}
@@ -137,3 +139,39 @@ inserted_next ks ns slots i x d within here is before n =
     ap (list_any (nat_eq n)) is ∙ inserted ks x n ∙ ap (λ b. b || nat_eq n x) (before n)
     ∙ ap (λ y. list_any (nat_eq n) (take i slots) || nat_eq n y) (sym here)
     ∙ sym (list_any_more (nat_eq n) slots i d within)
+
+-- more places lead as those before them
+pub covered : (first : ℕ) (xs ps qs : List ℕ) → LeadToPlaces first xs ps → KeepsPlaces ps qs → LeadToPlaces first xs qs
+covered first xs ps qs placed keeps i within =
+    let (least, there, leads) = placed i within in
+    let (stays, same) = keeps _ there in
+    (least, stays, same ∙ leads)
+
+-- a slot that comes last has its place noted, which was no other's
+pub offered : (first : ℕ) (xs ps : List ℕ) (slot away : ℕ) → LeadToPlaces first xs ps → list_any (nat_eq slot) xs ≡ false → slot ≡ first + away
+    → away < length ps → LeadToPlaces first (xs ++ slot ∷ []) (set ps away (length xs))
+offered first xs ps slot away placed new is noted i within = elim (cases_lt i (length xs)) [
+  | inl before ↦
+      let (least, there, leads) = placed i before in
+      let apart : get_or xs i 0 - first ≢ away = λ e.
+      let same : slot ≡ get_or xs i 0 = omega arith in
+      absurd (true≢false (sym (list_any_at (nat_eq slot) xs i 0 before ((Decides-eqb slot (get_or xs i 0)).1 same)) ∙ new)) in
+      rw (get_or_append_left xs (slot ∷ []) 0 i before)
+      (least, rw (length-set ps away (length xs)) there, get_or-set_other ps away (get_or xs i 0 - first) (length xs) 0 apart ∙ leads)
+  | inr past ↦
+      let last : length xs ≡ i = omega (arith, length_push xs slot) in
+      let own : slot - first ≡ away = omega arith in
+      rw (get_or_push xs slot 0 i last, own)
+      (omega arith, rw (length-set ps away (length xs)) noted, get_or-set_same ps away (length xs) 0 noted ∙ last)
+]
+
+-- the last slot, where it comes in the place of one that went, leads to its place
+pub came : (first : ℕ) (xs ps : List ℕ) → LeadToPlaces first xs ps → (i x y : ℕ) (ys : List ℕ) → i < length xs → ys ≡ swap_remove xs i x
+    → i < length ys → y ≡ get_or ys i y → (first ≤ y) × (y - first < length ps)
+came first xs ps placed i x y ys within left there is =
+    let fewer : length ys ≡ length xs - 1 = ap length left ∙ length-swap_remove xs i x in
+    let last : y ≡ get_or xs (length xs - 1) 0 =
+    is ∙ ap (λ l. get_or l i y) left ∙ get_or-swap_remove xs i i x y within (omega arith)
+    ∙ ap (λ b. get_or xs (cond b (length xs - 1) i) y) ((Decides-eqb i i).1 refl) ∙ get_or_default_zero xs (length xs - 1) y (omega arith) in
+    let (least, noted, leads) = placed (length xs - 1) (omega arith) in
+    rw last (least, noted)

@@ -1,7 +1,8 @@
+use Rattle.std.proofs.lemmas.Result.{IfOk-from_err}
 use Rattle.eco_archetypes.proofs.Common.{◌≡◌, ℕ, Some, option_map, refl, ap, sym, subst, ◌∙◌, same_Some, id_cmp, has_item, with_item, fingerprint}
-use Rattle.eco_archetypes.proofs.Common.{TableState, table_in, exact_types, then_told, TakesType, marks_back, type_at}
+use Rattle.eco_archetypes.proofs.Common.{TableState, slot_of, table_in, err_says, exact_types, need, then_told, TakesType, marks_back, type_at}
 use Rattle.eco_index.specs.Contents.{slots_by_mark}
-use Rattle.eco_archetypes.proofs.ArchetypeLemmas.{found_kept, found_ready}
+use Rattle.eco_archetypes.proofs.ArchetypeLemmas.{found_kept, found_ready, there_as_typed}
 use Rattle.eco_archetypes.proofs.Turnings.{found_turned}
 use Rattle.eco_archetypes.proofs.archetypes.Archetypes.gain_alone.Goals as goal
 
@@ -42,3 +43,64 @@ invariant_of-self-2 c =
     (λ n e. (rw (← c.self.view_is) at c.requires.absent) n (e ∙ ap Some is))
     (rw grown at c.in_ok-add.ensures.ok) (rw (c.mark-mark.ensures, grown) at c.leave-2.ensures)
     c.gain.ensures.index c.cut.ensures c.gain.ensures.agreed (then_told _ _ _ _ _ c.reserve_one.ensures.same c.tell.ensures.told)
+
+pub type_in-old-requires : goal.type_in-old-requires
+type_in-old-requires c = rw c.self.view_is c.requires.there
+
+pub gain-requires-clause-there : goal.gain-requires-clause-there
+gain-requires-clause-there c = rw c.self.view_is c.requires.there
+
+pub gain-requires-clause-lacks : goal.gain-requires-clause-lacks
+gain-requires-clause-lacks c = rw c.self.view_is c.requires.lacks
+
+pub gain-requires-clause-index : goal.gain-requires-clause-index
+gain-requires-clause-index c = c.self.invariant.matches
+
+pub gain-requires-clause-agreed : goal.gain-requires-clause-agreed
+gain-requires-clause-agreed c = c.self.invariant.agreed
+
+pub gain-requires-clause-few : goal.gain-requires-clause-few
+gain-requires-clause-few c = c.width_of-width.ensures.few
+
+pub gain-requires-clause-width : goal.gain-requires-clause-width
+gain-requires-clause-width c = rw c.self.view_is c.width_of-width.ensures.agrees
+
+pub type_in-requires : goal.type_in-requires
+type_in-requires c =
+    there_as_typed c.gain.new.tables c.args.slot (with_item id_cmp (table_in c.self.inside.tables c.args.slot).ids c.args.id)
+    c.in_default.ensures.ok.typed
+
+pub tell-requires : goal.tell-requires
+tell-requires c = c.in_ok-reserve_one.ensures.room
+
+pub returns-in_err-reserve_one-clause-ok : goal.returns-in_err-reserve_one-clause-ok
+returns-in_err-reserve_one-clause-ok c = IfOk-from_err c.from_residual.result _ c.from_residual.ensures.0
+
+pub returns-in_err-reserve_one-clause-err : goal.returns-in_err-reserve_one-clause-err
+returns-in_err-reserve_one-clause-err c = err_says c.from_residual.result (λ n. ap (λ s. slot_of s n) c.self.view_is)
+
+pub returns-in_err-reserve_one-clause-widths : goal.returns-in_err-reserve_one-clause-widths
+returns-in_err-reserve_one-clause-widths c = rw c.self.view_is (λ covers. covers)
+
+pub returns-in_err-add-clause-ok : goal.returns-in_err-add-clause-ok
+returns-in_err-add-clause-ok c = IfOk-from_err c.from_residual-in_err-add.result _ c.from_residual-in_err-add.ensures.0
+
+pub returns-in_err-add-clause-err : goal.returns-in_err-add-clause-err
+returns-in_err-add-clause-err c = err_says c.from_residual-in_err-add.result (λ n. ap (λ s. slot_of s n) c.self.view_is)
+
+pub returns-in_err-add-clause-widths : goal.returns-in_err-add-clause-widths
+returns-in_err-add-clause-widths c = rw c.self.view_is (λ covers. covers)
+
+pub returns-in-Err-clause-err : goal.returns-in-Err-clause-err
+returns-in-Err-clause-err c = rw (← c.self.view_is) c.in-Err.ensures.err
+
+pub returns-in-Err-clause-widths : goal.returns-in-Err-clause-widths
+returns-in-Err-clause-widths c = λ covers.
+    c.gain.ensures.widths (need c.args.entities.now) (c.width_of-width.ensures.covers covers) (rw c.self.view_is covers)
+
+pub returns-clause-ok : goal.returns-clause-ok
+returns-clause-ok c = rw (← c.self.view_is) c.in_default.ensures.ok
+
+pub returns-clause-widths : goal.returns-clause-widths
+returns-clause-widths c = λ covers.
+    c.gain.ensures.widths (need c.args.entities.now) (c.width_of-width.ensures.covers covers) (rw c.self.view_is covers)

@@ -1,8 +1,21 @@
-use Rattle.eco_archetypes.proofs.Common.{◌≡◌, [], ◌∷◌, length, map, ap, sym, ◌∙◌, arith, subst, option_map, TableState, asks, choices_on, type_at}
+use Rattle.eco_archetypes.proofs.Common.{◌≡◌, ℕ, ◌<◌, Bool, true, true≢false, List, [], ◌∷◌, length, map, list_any, ap, sym, ◌∙◌, arith, subst, option_map}
+use Rattle.eco_archetypes.proofs.Common.{TableState, asks, choices_on, type_at}
 use Rattle.eco_ids.specs.Answer.{choices}
 use Rattle.eco_entries.specs.Flat.{ChoicesState}
 use Rattle.eco_caches.proofs.Onlies.{all_kept, kept_alone, only_more}
 use Rattle.eco_archetypes.proofs.archetypes.caching.only_on.Goals as goal
+
+-- a query has a slot, where one of them is positive
+some_slot : {X Y : Type 0} (f : X → Y) (p : Y → Bool) (xs : List X) (ys : List Y) (n : ℕ) → map f xs ≡ ys → list_any p ys ≡ true → n ≡ length xs → 0 < n
+some_slot f p [] ys n are any wide = absurd (true≢false (sym any ∙ ap (list_any p) (sym are)))
+some_slot f p (x ∷ xs) ys n are any wide = omega (arith, wide)
+
+pub push_only-requires-clause-some : goal.push_only-requires-clause-some
+push_only-requires-clause-some c =
+    some_slot _ _ c.slots-terms.result.now c.args.query.now c.loop-slot.only.width c.slots-terms.ensures c.is_positive.ensures c.loop-slot.invariant.wide
+
+pub push_only-requires-clause-even : goal.push_only-requires-clause-even
+push_only-requires-clause-even c = sym c.loop-slot.invariant.wide
 
 pub loop-slot-init : goal.loop-slot-init
 loop-slot-init c = record {

@@ -1,7 +1,17 @@
 use Rattle.eco_index.proofs.Common.{false, true≢false, is_some, slice_get, None, Some, sym, ap, ◌∙◌, cond, nat_eq, with_value_at, has_slot, is_empty}
-use Rattle.eco_index.proofs.Keys.{none_empty, only_one, still_marked, turned}
+use Rattle.std.proofs.lemmas.Option.{slice_get_within}
+use Rattle.eco_index.proofs.Keys.{none_empty, none_listed, only_one, still_marked, turned}
 use Rattle.eco_index.proofs.Places.{goes_at, same_slots, written_at}
 use Rattle.eco_index.proofs.id_index.IdIndex.take.Goals as goal
+
+pub returns-in_default : goal.returns-in_default
+returns-in_default c = none_listed c.args.self.now.slots c.args.key c.args.slot (sym c.in_default.ensures.value)
+
+pub drop_key-requires : goal.drop_key-requires
+drop_key-requires c = slice_get_within c.args.self.now.slots.entries c.in-Some.place _ c.in-Some.ensures.at
+
+pub pair_mut-own-requires : goal.pair_mut-own-requires
+pair_mut-own-requires c = slice_get_within c.args.self.now.slots.entries c.in-Some.place _ c.in-Some.ensures.at
 
 pub invariant_of-self : goal.invariant_of-self
 invariant_of-self c =

@@ -8,7 +8,7 @@ usage: ./faults.sh [NAME..]     of these scenarios (all, where none is named) ea
                                 with its Nth request for memory refused, and with each from the Nth on, for each N
        ./faults.sh --help       shows this
 
-It starts the program crates/trials/out/trials, which `rt ci` leaves, or which FAULTS names. A line for each
+It starts the program crates/examples/out/examples, which `rt ci` leaves, or which FAULTS names. A line for each
 scenario says how many requests its call makes where none is refused, how many runs were refused for want of
 memory with everything left as it was, how many did all that they do with ample memory, and how many were
 faults, each of which has a line of its own before. The last line is `N passed, M failed`, of scenarios; the
@@ -23,7 +23,7 @@ lack() {
 }
 
 top=$(cd "$(dirname "$0")" && pwd)
-program=${FAULTS:-$top/crates/trials/out/trials}
+program=${FAULTS:-$top/crates/examples/out/examples}
 
 case ${1-} in
 --help | -h)
@@ -36,7 +36,7 @@ case ${1-} in
     ;;
 esac
 
-[ -x "$program" ] || lack "there is no program $program: rt ci makes it, or rt run in crates/trials"
+[ -x "$program" ] || lack "there is no program $program: rt ci makes it, or rt run in crates/examples"
 command -v gcc >/dev/null || lack "gcc is lacking (Debian: gcc)"
 room=$(mktemp -d)
 trap 'rm -rf "$room"' EXIT

@@ -89,7 +89,7 @@ if [ "$prove" -eq 1 ]; then
     run rt ci
 fi
 run tools/growing_calls
-for part in trials:./faults.sh flecsrun:tools/rows flecsview:tools/views; do
+for part in examples:./faults.sh flecsrun:tools/rows flecsview:tools/views; do
     if is_built "${part%%:*}"; then
         run "${part#*:}"
     else

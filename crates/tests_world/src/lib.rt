@@ -1,10 +1,12 @@
-//! Tests of a store and of a world, of frames, of typed components, of the shared world and of runs of scripts: long runs,
-//! threads, each call that may want memory, where there is enough of it, and devices that give or take little at a time, fail or
-//! never end.
+//! Tests of what lies below a world (`below`), of a store and of a world, of frames, of typed components, of the shared world and
+//! of runs of scripts: long runs, threads, each call that may want memory, where there is enough of it, and devices that give or
+//! take little at a time, fail or never end.
 #![tactic(auto)]
 
 #[cfg(test)]
 mod answers;
+#[cfg(test)]
+mod below;
 #[cfg(test)]
 mod bodies;
 pub mod bounds;

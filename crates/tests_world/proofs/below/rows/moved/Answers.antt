@@ -1,7 +1,7 @@
 use Rattle.std.proofs.Common.{◌≢◌, refl, sym}
 use Rattle.eco_ids.specs.declared.id.Id.TheVariants.{One}
-use Rattle.tests_low.proofs.Widths.{different, two_agree, two_fit, two_kept, two_set}
-use Rattle.tests_low.proofs.rows.moved.Goals as goal
+use Rattle.tests_world.proofs.Widths.{different, two_agree, two_fit, two_kept, two_set}
+use Rattle.tests_world.proofs.below.rows.moved.Goals as goal
 
 pub set_value-requires-clause-fits : goal.set_value-requires-clause-fits
 set_value-requires-clause-fits c =

@@ -1,5 +1,5 @@
 use Rattle.eco_workers.specs.Rounds.{IsSeatOf}
-use Rattle.tests_low.proofs.rounds.claim_all.Given as goal
+use Rattle.tests_world.proofs.below.rounds.claim_all.Given as goal
 
 abbrev pub invariant-loop : goal.invariant-loop
 invariant-loop l = IsSeatOf l.round l.seat

@@ -48,10 +48,13 @@ fn declare(world: &mut World) -> Result<Terms, Refusal> {
 
 // Every entity can be used as a tag, or in a pair.
 fn build(world: &mut World) -> Result<Harbor, Refusal> {
+    let moored_at = world.create(Some("MooredAt"))?;
+    let quay = world.create(Some("Quay"))?;
+    let buoy = world.create(Some("Buoy"))?;
     Ok(Harbor {
-        moored_at: world.create(Some("MooredAt"))?,
-        quay: world.create(Some("Quay"))?,
-        buoy: world.create(Some("Buoy"))?,
+        moored_at,
+        quay,
+        buoy,
     })
 }
 
@@ -138,19 +141,31 @@ fn print_courses<R: Print>(
     Ok(())
 }
 
-// A query finds tables too: those of all entities that have the same ids, with their values in columns.
-fn print_all_courses<R: Print>(rt: &R, world: &World, terms: Terms) -> Result<()> {
-    let query = world.read_query("Position, Velocity")?;
-    for table in &world.tables_of(&query)? {
+// The ships of some tables.
+fn print_each_course<R: Print>(
+    rt: &R,
+    world: &World,
+    terms: Terms,
+    tables: &[TableRows<'_>],
+) -> io::Result<()> {
+    for table in tables {
         print_courses(rt, world, terms, table)?;
     }
     Ok(())
 }
 
+// A query finds tables too: those of all entities that have the same ids, with their values in columns.
+fn print_all_courses<R: Print>(rt: &R, world: &World, terms: Terms) -> Result<()> {
+    let query = world.read_query("Position, Velocity")?;
+    let tables = world.tables_of(&query)?;
+    print_each_course(rt, world, terms, tables.as_slice())?;
+    Ok(())
+}
+
 // The places added to a sum of places.
 fn added(mut sum: [i64; 2], places: &[[i64; 2]]) -> [i64; 2] {
-    for place in places {
-        sum = [sum[0].wrapping_add(place[0]), sum[1].wrapping_add(place[1])];
+    for [east, north] in places {
+        sum = [sum[0].wrapping_add(*east), sum[1].wrapping_add(*north)];
     }
     sum
 }
@@ -204,15 +219,27 @@ fn close_quay<R: Print>(rt: &R, world: &mut World, harbor: Harbor, fleet: Fleet)
     Ok(())
 }
 
+// What calls tell that only read the world.
+fn print_read<R: Print>(
+    rt: &R,
+    world: &World,
+    terms: Terms,
+    harbor: Harbor,
+    fleet: Fleet,
+) -> Result<()> {
+    print_found(rt, world)?;
+    print_ships(rt, world, terms, harbor, fleet)?;
+    print_all_courses(rt, world, terms)?;
+    print_sum(rt, world, terms)?;
+    Ok(())
+}
+
 // The world is passed on by reference: a function that owns it would have its end to prove at each way out.
 fn show_all<R: Print + Threads + Sync + AllocGlobal>(rt: &R, world: &mut World) -> Result<()> {
     let terms = declare(world)?;
     let harbor = build(world)?;
     let fleet = launch(world, terms, harbor)?;
-    print_found(rt, world)?;
-    print_ships(rt, world, terms, harbor, fleet)?;
-    print_all_courses(rt, world, terms)?;
-    print_sum(rt, world, terms)?;
+    print_read(rt, world, terms, harbor, fleet)?;
     print_refusal(rt, world)?;
     close_quay(rt, world, harbor, fleet)?;
     frames::show(rt, world, fleet.heron, terms.position)

@@ -88,14 +88,19 @@ fn push_entities(text: &mut String, world: &World) -> Result<(), AllocError> {
     Ok(())
 }
 
+// What the queries answer that were added to the world.
+fn push_queries(text: &mut String, world: &World) -> Result<(), AllocError> {
+    for number in 0..QUERIES {
+        push_query(text, world, number)?;
+    }
+    Ok(())
+}
+
 /// All that a world tells: who lives, with names, arities, ids and values; how many indices are known; its tables; and what the
 /// queries answer that were added to it.
 pub fn push_world(text: &mut String, alloc: Global, world: &World) -> Result<(), AllocError> {
     push(text, &world.high())?;
     push_entities(text, world)?;
     push_tables(text, alloc, world)?;
-    for number in 0..QUERIES {
-        push_query(text, world, number)?;
-    }
-    Ok(())
+    push_queries(text, world)
 }

@@ -57,6 +57,8 @@ mod plans;
 #[cfg(test)]
 mod questions;
 #[cfg(test)]
+mod reports;
+#[cfg(test)]
 mod rounds;
 #[cfg(test)]
 mod run_rows;

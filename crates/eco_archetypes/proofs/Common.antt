@@ -25,11 +25,11 @@ pub use Rattle.eco_archetypes.specs.Archetypes.{passes_at, standing_in, type_at,
 pub use Rattle.eco_archetypes.specs.Naming.{is_named_by_some, names_in}
 pub use Rattle.eco_archetypes.specs.Sweeping.{DropsRowless, IsLess, Sweeps, has_table}
 pub use Rattle.eco_archetypes.specs.Widths.{AreAgreed, AreWidths, FitsIn, IsWidth, KeepsWidths, MeetsNeeds, StillCover}
-pub use Rattle.eco_caches.proofs.Caching.{exact_types, then_told}
-pub use Rattle.eco_caches.specs.Caching.{AreExact, AreOnly, AreThose, AreTold, ChangesType, StayExact, choices_on, fulfils}
-pub use Rattle.eco_caches.specs.declared.cache.Cache.{Cache}
+pub use Rattle.eco_index.proofs.Caching.{exact_types, then_told}
+pub use Rattle.eco_index.specs.Caching.{AreExact, AreOnly, AreThose, AreTold, ChangesType, StayExact, choices_on, fulfils}
+pub use Rattle.eco_index.specs.declared.cache.Cache.{Cache}
 pub use Rattle.eco_entities.specs.Needs.{need}
-pub use Rattle.eco_entries.specs.Answers.{asks}
+pub use Rattle.eco_index.specs.Answers.{asks}
 pub use Rattle.eco_ids.proofs.Ascending.{both, first, has_at, remove_is_without, second}
 pub use Rattle.eco_ids.proofs.Exact.{id_eq_sym}
 pub use Rattle.eco_ids.proofs.Facts.{any_is, equal_tie, id_eq_is, id_eq_itself, or_left, or_parts, or_right, same_tests}

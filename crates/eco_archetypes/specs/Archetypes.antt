@@ -14,8 +14,8 @@ use Rattle.eco_tables.specs.Tables.{slot_of, table_in, rowless_type}
 use Rattle.eco_index.specs.Edges.{IsGraph}
 use Rattle.eco_index.specs.TypeMap.{TypesDiffer, IsTypeMap, same_ids}
 use Rattle.eco_index.specs.IdIndex.{Lists, any_matches}
-use Rattle.eco_caches.specs.Caching.{AreExact}
-use Rattle.eco_caches.specs.declared.cache.Cache.{Cache}
+use Rattle.eco_index.specs.Caching.{AreExact}
+use Rattle.eco_index.specs.declared.cache.Cache.{Cache}
 use Rattle.eco_archetypes.specs.Widths.{AreAgreed, StillCover}
 
 -- the type of the table in a slot, if there is one

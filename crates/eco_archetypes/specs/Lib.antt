@@ -1,4 +1,11 @@
-pub mod Widths
 pub mod Archetypes
+pub mod Deaths
+pub mod Holders
 pub mod Naming
+pub mod Records
+pub mod Retyping
+pub mod Seats
+pub mod Shown
 pub mod Sweeping
+pub mod Widths
+pub mod Worlds

@@ -22,10 +22,9 @@ ghost use Rattle.eco_ids.specs.Order.{has_item};
 ghost use Rattle.eco_ids.specs.declared.value.Value.{Value as Values};
 ghost use Rattle.eco_tables.specs.Runs.{IsLongestRun, IsRunOf, run_values, table_with_run};
 
-use eco_caches::Caches;
 use eco_entities::EntityIndex;
 use eco_ids::{Entity, Id, TableSlot, TypeList, Value};
-use eco_index::{Edges, IdIndex, Seed, TypeMap};
+use eco_index::{Caches, Edges, IdIndex, Seed, TypeMap};
 use eco_tables::Tables;
 use std::alloc::{AllocError, Global};
 use std::marker::Model;
@@ -72,7 +71,7 @@ impl Drop for Archetypes {
 impl Model for Archetypes {
     ghost use Rattle.std.specs.Prelude.{List, Option};
     ghost use Rattle.eco_tables.specs.Table.{TableState};
-    ghost use Rattle.eco_caches.specs.Contents.{cache_list};
+    ghost use Rattle.eco_index.specs.CachesContents.{cache_list};
     ghost use Rattle.eco_index.specs.Contents.{edge_lists, lists_in, slots_by_mark};
     ghost use Rattle.eco_archetypes.specs.Archetypes.{IsArchetypes};
 

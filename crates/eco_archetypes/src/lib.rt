@@ -6,12 +6,21 @@
 //! that it matches through an index. Who asks for more than a pattern asks by a [`TypeTest`]. A query that is asked again and
 //! again may be kept with the tables that it finds ([`Archetypes::keep`]): each table that comes, turns or goes is told to all
 //! that are kept.
+//!
+//! A living entity stands in one row, of the table of its type. Who only reads a store is lent its [`Places`], and who changes
+//! entities by their tables asks it as a [`Population`]; neither has to know the store.
 #![tactic(auto)]
 
 mod archetypes;
 mod found;
 mod occupied;
+mod places;
+mod population;
+mod type_change;
 
 pub use archetypes::Archetypes;
 pub use eco_index::{AllOf, NamingTest, Seed, TypeTest};
 pub use found::{Found, FoundSlots, entities_in};
+pub use places::Places;
+pub use population::Population;
+pub use type_change::TypeChange;

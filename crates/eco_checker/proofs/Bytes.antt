@@ -3,7 +3,7 @@ use Rattle.eco_checker.proofs.Common.{◌≡◌, ℕ, Bool, true, false, List, �
 use Rattle.eco_checker.proofs.Common.{◌∙◌, append-nil, Data, WrittenScript, IsScript, IsScriptData}
 use Rattle.std.specs.Io.KnownBytes.{Appends, Consumes, IsAtEnd}
 use Rattle.serde_json.specs.Read.{read}
-use Rattle.eco_devices.specs.Beginning.{IsBeginning}
+use Rattle.eco_steps.specs.Beginning.{IsBeginning}
 use Rattle.eco_checker.specs.Told.{AreNoScript, AreScript, IsReport, IsReportOf, IsTextOf, WasCutShort, script_line}
 
 pub script_bytes : (bytes : List ℕ) (d : Data) → IsUtf8 bytes → read bytes ≡ Some d → ((s : WrittenScript) × IsScriptData d s) → (s : WrittenScript)

@@ -3,7 +3,7 @@ use Rattle.std.specs.Prelude.{◌≡◌, ◌⊎◌, ℕ, List, codes, Option, So
 use Rattle.std.specs.Io.KnownBytes.{Appends, Keeps}
 use Rattle.serde_json.specs.Data.{Data}
 use Rattle.serde_json.specs.Read.{read}
-use Rattle.eco_devices.specs.Beginning.{IsBeginning}
+use Rattle.eco_steps.specs.Beginning.{IsBeginning}
 use Rattle.eco_steps.specs.Decode.{parts_in, step_in}
 use Rattle.eco_steps.specs.Script.{WrittenScript, IsScript}
 use Rattle.eco_checker.specs.Faults.{edition_in, items_in, numbers_without}

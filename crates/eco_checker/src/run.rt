@@ -6,7 +6,7 @@ ghost use Rattle.eco_checker.specs.Told.{AreScript, AreNoScript, IsReportOf, Was
 
 use crate::check::check_bytes;
 use crate::verdict::Verdict;
-use eco_devices::{ScriptReader, ScriptWriter};
+use eco_steps::{ScriptReader, ScriptWriter};
 use std::alloc::Global;
 
 /// Reads an input to its end, and writes whether it is a script: `is a script`, or a line for each of its faults and
@@ -35,14 +35,14 @@ pub fn check_script<R: ScriptReader, W: ScriptWriter>(
         → WasCutShort (R.remaining reader.old) (W.held writer.old) (W.held writer.new) }
     ensures reads { R.calls reader.new ≤ R.calls reader.old + 16777216 }
 {
-    let Ok(bytes) = eco_devices::read_all(alloc, reader) else {
+    let Ok(bytes) = eco_steps::read_all(alloc, reader) else {
         return Verdict::Stopped;
     };
     let mut text = String::new(alloc);
     let Ok(is_script) = check_bytes(alloc, bytes.as_slice(), &mut text) else {
         return Verdict::Stopped;
     };
-    match eco_devices::write_all(writer, text.as_str().as_bytes()) {
+    match eco_steps::write_all(writer, text.as_str().as_bytes()) {
         Ok(()) if is_script => Verdict::Script,
         Ok(()) => Verdict::NotAScript,
         Err(_) => Verdict::Stopped,

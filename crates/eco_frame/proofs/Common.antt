@@ -10,8 +10,8 @@ pub use Rattle.std.proofs.lemmas.Option.{get_or_from_slice_get, slice_get-get_or
 pub use Rattle.std.proofs.lemmas.Option.{slice_get_within}
 pub use Rattle.std.proofs.lemmas.Result.{IfErr-weaker, IfOk-weaker, err_from_is_err_and}
 pub use Rattle.std.specs.List.{All, AllByRecursion, AllZip, concat, list_all, list_any, range_with_len}
-pub use Rattle.eco_batches.specs.Outlines.{ArePlacedBatches, no_system, system_at, system_of, systems_of}
-pub use Rattle.eco_batches.specs.declared.declaration.Declared.{Declared}
+pub use Rattle.eco_frame.specs.Outlines.{ArePlacedBatches, no_system, system_at, system_of, systems_of}
+pub use Rattle.eco_frame.specs.declared.declared_system.Declared.{Declared}
 pub use Rattle.eco_bodies.specs.Taking.{AllTook, commands_in_turn, taken_of}
 pub use Rattle.eco_bodies.specs.declared.systems.System.{System}
 pub use Rattle.eco_frame.specs.Models.{ArePlaced, Declares, model_at, model_of}

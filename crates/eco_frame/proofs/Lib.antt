@@ -16,3 +16,17 @@ pub mod Runs
 pub mod Shown
 pub mod Turns
 pub mod Within
+pub mod Typed
+mod Brings
+mod Clashes
+mod Done
+mod Joins
+mod Keyed
+mod Members
+mod Once
+mod Orders
+mod Overlapped
+mod Parts
+mod Patterns
+mod Same
+pub mod BatchesCommon

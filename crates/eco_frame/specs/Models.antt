@@ -10,8 +10,8 @@ use Rattle.eco_systems.specs.Frames.{BatchDraws, IsFrame, IsSolo, FrameOutcomes}
 use Rattle.eco_systems.specs.Phases.{in_order, order_of}
 use Rattle.eco_systems.specs.Rows.{ValuedRow}
 use Rattle.eco_systems.specs.Systems.{SystemModel, system_reads}
-use Rattle.eco_batches.specs.Outlines.{no_system, reads_of}
-use Rattle.eco_batches.specs.declared.declaration.Declared.{Declared}
+use Rattle.eco_frame.specs.Outlines.{no_system, reads_of}
+use Rattle.eco_frame.specs.declared.declared_system.Declared.{Declared}
 use Rattle.eco_bodies.specs.Bodies.{system_with}
 use Rattle.eco_bodies.specs.declared.systems.System.{System}
 

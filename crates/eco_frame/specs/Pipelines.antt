@@ -2,8 +2,8 @@
 use Rattle.std.specs.Prelude.{List}
 use Rattle.std.specs.List.{AllZip}
 use Rattle.eco_systems.specs.Systems.{SystemModel}
-use Rattle.eco_batches.specs.Plans.{IsBatchPlan}
-use Rattle.eco_batches.specs.declared.plan.Plan.{Plan}
+use Rattle.eco_frame.specs.Plans.{IsBatchPlan}
+use Rattle.eco_frame.specs.declared.plan.Plan.{Plan}
 use Rattle.eco_frame.specs.Models.{Declares}
 
 -- they are those of what the systems declare

@@ -32,7 +32,12 @@ const LIGHT_ROWS: usize = 4096;
 
 // Whether all bodies are light.
 fn are_light<B: SystemBody>(parts: &[Part<'_, B>]) -> bool {
-    parts.iter().all(|part| part.body.is_light())
+    for part in parts {
+        if !part.body.is_light() {
+            return false;
+        }
+    }
+    true
 }
 
 // How many rows there are in all.

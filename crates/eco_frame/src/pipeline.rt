@@ -1,17 +1,17 @@
 //! Listed systems with their batches, which are kept from frame to frame.
 ghost use Rattle.std.specs.Prelude.{◌≡◌, ◌≤◌, map, IfErr, IfOk, OnOk};
-ghost use Rattle.eco_batches.specs.Plans.{batches_in};
+ghost use Rattle.eco_frame.specs.Plans.{batches_in};
 ghost use Rattle.eco_frame.specs.Models.{ArePlaced, model_of};
 ghost use Rattle.eco_frame.specs.Pipelines.{IsPlanOf};
 ghost use Rattle.eco_frame.specs.Reports.{IsFrameBy};
 ghost use Rattle.eco_frame.specs.Stops.{IsWhy};
 
+use crate::Plan;
 use crate::frame::{run_batches, stop_at_once};
 use crate::points::declarations;
 use crate::pool::StagePool;
 use crate::report::FrameReport;
 use crate::stop::FrameStop;
-use eco_batches::Plan;
 use eco_bodies::{SystemBody, Systems};
 use eco_world::World;
 use std::alloc::{AllocError, Global};

@@ -3,8 +3,8 @@ ghost use Rattle.std.specs.Prelude.{◌≡◌, IfOk, map};
 ghost use Rattle.std.specs.List.{AllZip};
 ghost use Rattle.eco_frame.specs.Models.{AreOneByOne, ArePlaced, Declares, model_of};
 
+use crate::Declared;
 use crate::frame::are_lawful;
-use eco_batches::Declared;
 use eco_bodies::{System, SystemBody, Systems};
 use eco_traits::Holdings;
 use std::alloc::{AllocError, Global};
@@ -39,7 +39,7 @@ pub(crate) fn declarations<B: SystemBody>(
 }
 
 /// The batches between sync points (Flecs manual, Systems, "Sync points"), as lists of positions of declaration in the order
-/// in which the systems run; see [`eco_batches::sync_points`]. `AllocError` comes where memory for them, or for what the
+/// in which the systems run; see [`sync_points_of`]. `AllocError` comes where memory for them, or for what the
 /// systems declare, is refused.
 pub fn sync_points<H: Holdings, B: SystemBody + Drop>(
     alloc: Global,
@@ -56,5 +56,5 @@ pub fn sync_points<H: Holdings, B: SystemBody + Drop>(
     eco_systems::laws::frames_are_one_by_one();
     are_lawful(systems.as_slice());
     let declared = declarations(alloc, systems.as_slice())?;
-    eco_batches::sync_points(alloc, holdings, &declared)
+    crate::sync_points_of(alloc, holdings, &declared)
 }

@@ -2,7 +2,7 @@
 ghost use Rattle.std.specs.Prelude.{◌≡◌, ◌<◌, length, option_map, slice_get, IfErr, IfOk, IsTrue, OnErr, Some};
 ghost use Rattle.std.specs.List.{list_any};
 ghost use Rattle.eco_ids.specs.declared.refusal.Refusal.TheVariants.{OutOfMemory};
-ghost use Rattle.eco_answers.specs.Answers.{asked};
+ghost use Rattle.eco_store.specs.Answers.{asked};
 ghost use Rattle.eco_systems.specs.Rows.{valued_rows};
 ghost use Rattle.eco_world.specs.Queries.{may_query};
 ghost use Rattle.eco_frame.specs.Rows.{asks_no_data, may_show, world_row};
@@ -60,7 +60,7 @@ impl Drop for SystemRows<'_> {
 impl<'a> Model for SystemRows<'a> {
     ghost use Rattle.std.specs.Prelude.{◌≡◌, List, map};
     ghost use Rattle.eco_ids.specs.Answer.{answer};
-    ghost use Rattle.eco_answers.specs.Answers.{asked};
+    ghost use Rattle.eco_store.specs.Answers.{asked};
     ghost use Rattle.eco_systems.specs.Rows.{ValuedRow, valued};
 
     ghost Value = { List ValuedRow };

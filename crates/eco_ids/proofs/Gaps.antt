@@ -1,6 +1,6 @@
 -- A list whose first ids have gone, once one more left or came.
 use Rattle.eco_ids.proofs.Common.{◌≡◌, ℕ, suc, ◌+◌, ◌-◌, ◌<◌, ◌≤◌, List, ◌∷◌, ◌++◌, length, take, drop, get_or, set, insert, remove, sym, ap, ◌∙◌, arith}
-use Rattle.eco_ids.proofs.Common.{append_assoc, length-append, length-drop, length-take-le, take-append-drop, take_all, take_rest, append-nil}
+use Rattle.eco_ids.proofs.Common.{append_assoc, length-append, length-drop, length-take-le, take-append-drop, take_all, append-nil}
 use Rattle.std.proofs.Math.Seq.{drop-cons, drop-drop, drop_at, length-paste, set_at, take-paste}
 use Rattle.std.proofs.lemmas.List.{drop_all}
 use Rattle.std.proofs.lemmas.List.Edits.{insert-append_right, remove-append_right}

@@ -56,7 +56,7 @@ module _ (w : WorldState) (x : Entity) (besides : Record → Record) (verdict : 
   IsAdded i = Judges w x (i ∷ []) (grown w x i (i ∷ [])) verdict
       → MatchOption verdict (Answers tt (changed (grown w x i (i ∷ [])) x besides) r new) (λ why. Refuses why w r new) → Extends w x i besides r new
 
-  pair_added : (q u : Entity) → ((y : Entity) → IsFalse (has w q (Two WITH y))) → IsAdded (Two q u)
+  pub pair_added : (q u : Entity) → ((y : Entity) → IsFalse (has w q (Two WITH y))) → IsAdded (Two q u)
   pair_added q u none judged ends = (Two q u ∷ [], alone w (Two q u) (id_eq_itself (Two q u)) (lone_pair w q u none), verdict, judged, ends)
 
   single_added : (c : Entity) → ((y : Entity) → IsFalse (has w c (Two WITH y))) → IsAdded (One c)

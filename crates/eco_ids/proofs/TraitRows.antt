@@ -1,11 +1,11 @@
 -- Worked rows: what With brings, and a walk that would close a cycle.
 use Rattle.eco_ids.proofs.Facts.{only}
-use Rattle.eco_ids.proofs.MirrorRows.{alone, lone_pair}
+use Rattle.eco_ids.proofs.MirrorRows.{alone, lone_pair, pair_added}
 use Rattle.eco_ids.proofs.Common.{◌≡◌, [], ◌∷◌, IsTrue, Some, None, Err, sym, refl, subst, true≢false, is_le, Entity, WITH, CHILD_OF, Id, Two}
 use Rattle.eco_ids.proofs.Common.{One, Cycle, root, next, entity_cmp, Adds, IsClosure, with_closure, ClosesCycle, InClosure, Reaches}
-use Rattle.eco_ids.proofs.Common.{Brings, WorldState, zeros}
+use Rattle.eco_ids.proofs.Common.{Brings, WorldState, zeros, Ok, has, ap, unchanged, ◌==◌}
 use Rattle.eco_ids.proofs.Worlds.{e, having, world}
-use Rattle.eco_ids.proofs.Gains.{same_relationship}
+use Rattle.eco_ids.proofs.Gains.{same_relationship, same_target}
 
 -- Power 9 goes with Resp 10, Loves 11 with Likes 12; Pears 13, e 14
 abbrev liking : WorldState
@@ -64,3 +64,24 @@ least q c = subst (λ r. IsTrue (is_le (entity_cmp CHILD_OF r))) (same_relations
 
 cycle : Adds family (e 11) wanted (Err (Cycle CHILD_OF)) family
 cycle = (wanted ∷ [], closure, Some (Cycle CHILD_OF), (Some CHILD_OF, (closes, least), refl), (refl, refl))
+
+-- a 9 becomes a child of b 10, who has no pair: an acyclic pair that closes no cycle
+abbrev couple : WorldState
+couple = world (having [] ∷ having [] ∷ [])
+
+abbrev parent : Id
+parent = Two CHILD_OF (e 10)
+
+-- a walk from b leads nowhere
+stays : (x : Entity) → Reaches couple CHILD_OF (e 10) x → x ≡ e 10
+stays x (root at) = at
+stays x (next {a = a} before leads) = absurd (true≢false (sym (subst (λ c. IsTrue (has couple c (Two CHILD_OF x))) (stays a before) leads)))
+
+calm : (r : Entity) → ClosesCycle couple (e 9) (parent ∷ []) r → ⊥
+calm r c =
+    let same : parent ≡ Two r c.1 = only parent (Two r c.1) c.2 in
+    let walk = subst (λ q. Reaches couple q (e 10) (e 9)) (sym (same_relationship same)) (subst (λ t. Reaches couple r t (e 9)) (sym (same_target same)) c.3) in
+    true≢false (sym (ap (λ (x : Entity). x.index == 10) (stays (e 9) walk)))
+
+child : Adds couple (e 9) parent (Ok tt) (world (having (parent ∷ []) ∷ having [] ∷ []))
+child = pair_added couple (e 9) unchanged None (Ok tt) (world (having (parent ∷ []) ∷ having [] ∷ [])) CHILD_OF (e 10) (λ x. refl) (None, calm, refl) (refl, refl)

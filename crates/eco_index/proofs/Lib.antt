@@ -1,16 +1,27 @@
+pub mod CachesCommon
+pub mod Caching
+pub mod Chunked
 pub mod Common
 pub mod EdgeLists
+pub mod EntriesCommon
+pub mod Filtered
+pub mod FirstMatch
 pub mod Graphs
 pub mod IndexCopies
 pub mod Joinings
 pub mod Keys
+pub mod Least
 pub mod Listings
 pub mod Named
+pub mod Onlies
+pub mod Only
 pub mod PassedOver
 mod Places
+pub mod SeenIds
 pub mod SlotEdges
 pub mod SlotLists
 pub mod Sweeping
 pub mod Toggles
 pub mod TypeMaps
 pub mod TypeTests
+pub mod Unseen

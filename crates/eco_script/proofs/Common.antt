@@ -9,7 +9,7 @@ pub use Rattle.std.proofs.lemmas.List.{append-nil, flat_map_more, length-append,
 pub use Rattle.std.proofs.lemmas.Result.{err_from_is_err_and}
 pub use Rattle.std.specs.List.{AllByRecursion, list_all, list_any}
 pub use Rattle.eco_bodies.specs.declared.action.Action.{Action}
-pub use Rattle.eco_formats.specs.Lines.{line_of, row_line}
+pub use Rattle.eco_script.specs.Lines.{line_of, row_line}
 pub use Rattle.eco_frame.specs.Reports.{FrameDone, Frames, IsFrameBy, drawn_in}
 pub use Rattle.eco_frame.specs.declared.stop.FrameStop.{FrameStop}
 pub use Rattle.eco_grammar.specs.Readings.{Reads, ReadsAll, ReadsInMemory, ReadsOnce, entity_of_placed, id_of, ok_both, ok_map, query_of}

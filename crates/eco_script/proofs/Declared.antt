@@ -14,7 +14,7 @@ use Rattle.eco_bodies.specs.Scripts.{script_commands, script_taken}
 use Rattle.eco_bodies.specs.declared.script.Script.{Script}
 use Rattle.eco_bodies.specs.declared.systems.System.{System}
 use Rattle.eco_frame.specs.Stops.{IsWhy}
-use Rattle.eco_formats.specs.References.{ReadsQuery}
+use Rattle.eco_script.specs.References.{ReadsQuery}
 use Rattle.eco_ids.specs.Outcome as outcome
 use Rattle.eco_steps.specs.Actions as texts
 use Rattle.eco_steps.specs.Steps as step

@@ -11,8 +11,8 @@ use Rattle.eco_ids.specs.declared.value.Value.{Value}
 use Rattle.eco_ids.specs.Delete.{DeletesOne, DeletesWith}
 use Rattle.eco_ids.specs.Laws.{HasOneEnd}
 use Rattle.eco_ids.specs.Step.{Adds, Sets, Removes, Clears, RemovesAll, Renames}
-use Rattle.eco_formats.specs.Recording.{MakesOfNamed, ReadsAction, ReadsActions, ReadsChange, ReadsCommand, ReadsCommands, ReadsEach, has_stages}
-use Rattle.eco_formats.specs.References.{ReadsBoth, ReadsEntity, ReadsId, ReadsQuery}
+use Rattle.eco_script.specs.Recording.{MakesOfNamed, ReadsAction, ReadsActions, ReadsChange, ReadsCommand, ReadsCommands, ReadsEach, has_stages}
+use Rattle.eco_script.specs.References.{ReadsBoth, ReadsEntity, ReadsId, ReadsQuery}
 use Rattle.eco_ids.specs.Run as run
 use Rattle.eco_steps.specs.Actions as texts
 use Rattle.eco_steps.specs.Commands as command

@@ -7,13 +7,13 @@ use Rattle.eco_script.proofs.Common.{is_proper, is_taken, is_same_name, first_re
 use Rattle.eco_script.proofs.Common.{WorldState, Record, OnEntities, has, names_living, is_alive, living, entities, with_entities, SpellsId, SpellsQuery}
 use Rattle.eco_script.proofs.Common.{SpellsRef, QuerySlot, ReadsAll, entity_of_placed, id_of, ok_both, ok_map, query_of, FrameStop, ScriptState, Reply, truth}
 use Rattle.eco_script.proofs.Common.{got, shown, listed, found, merged, stopped, AnswersAdded, Calls, On, Replies, StepReplies, WrittenChange, Does, step_lines}
-use Rattle.eco_answers.specs.Answers.{asked}
+use Rattle.eco_store.specs.Answers.{asked}
 use Rattle.eco_ids.specs.Builtin.{is_builtin, is_builtins}
 use Rattle.eco_ids.specs.Data.{arity, fits}
 use Rattle.eco_ids.specs.Step.{Extends, changed, has_ids, is_held, is_reserved, own_name, unchanged, unfit_actor, with_name, with_value}
-use Rattle.eco_formats.specs.Recording.{MakesOfNamed, ReadsChange}
-use Rattle.eco_formats.specs.References.{ReadsBoth, ReadsEntity, ReadsId, ReadsQuery}
-use Rattle.eco_formats.specs.Values.{shown_value}
+use Rattle.eco_script.specs.Recording.{MakesOfNamed, ReadsChange}
+use Rattle.eco_script.specs.References.{ReadsBoth, ReadsEntity, ReadsId, ReadsQuery}
+use Rattle.eco_script.specs.Values.{shown_value}
 use Rattle.eco_ids.specs.Run as run
 use Rattle.eco_steps.specs.Commands as change
 use Rattle.eco_steps.specs.Steps as step

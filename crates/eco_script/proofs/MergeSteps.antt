@@ -1,7 +1,7 @@
 -- The step of a merge, of what was read of its texts.
 use Rattle.eco_script.proofs.Common.{◌≡◌, ℕ, ◌||◌, List, [], ◌∷◌, flat_map, Result, Ok, Err, IsTrue, IsFalse, refl, Refusal, OutOfMemory}
 use Rattle.eco_script.proofs.Common.{is_out_of_memory, Meets, WorldState, ok_map, WrittenCommand, Outcomes, Merges, may_merge, Replies, merged}
-use Rattle.eco_formats.specs.Recording.{ReadsCommands, has_stages}
+use Rattle.eco_script.specs.Recording.{ReadsCommands, has_stages}
 use Rattle.eco_ids.specs.Run as run
 use Rattle.eco_steps.specs.Steps as step
 

@@ -7,7 +7,7 @@ use Rattle.eco_script.specs.Run.{RanTo, WasNotRead, WasStopped, beginning}
 use Rattle.serde_json.specs.Data.{Data}
 use Rattle.serde_json.specs.Read.{read}
 use Rattle.eco_steps.specs.Script.{WrittenScript, IsScript, IsScriptData}
-use Rattle.eco_devices.specs.Beginning.{IsBeginning}
+use Rattle.eco_steps.specs.Beginning.{IsBeginning}
 use Rattle.eco_script.proofs.Ends.{TextsRead, some_step}
 
 begins : (t q r u more : List ℕ) → u ≡ q ++ r → (t ++ u) ++ more ≡ (t ++ q) ++ (r ++ more)

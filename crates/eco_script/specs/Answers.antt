@@ -2,7 +2,7 @@
 use Rattle.std.specs.Prelude.{option_map, Result}
 use Rattle.eco_ids.specs.declared.refusal.Refusal.{Refusal}
 use Rattle.eco_grammar.specs.Readings.{ok_map}
-use Rattle.eco_formats.specs.ShownViews.{shown_view}
+use Rattle.eco_script.specs.ShownViews.{shown_view}
 use Rattle.eco_script.specs.Replies as spec
 use Rattle.eco_script.specs.declared.reply.Reply.{Reply}
 use Rattle.eco_script.specs.declared.reply.Reply.TheVariants.{Done, Made, Truth, Got, Shown, Listed, Found, Kept, Merged, Framed, Stopped}

@@ -1,8 +1,15 @@
 pub mod Answers
+pub mod Changes
 pub mod Laws
+pub mod Lines
+pub mod Printed
+pub mod Recording
+pub mod References
 pub mod Replies
 pub mod Run
+pub mod ShownViews
 pub mod States
 pub mod Statuses
 pub mod Systems
 pub mod Text
+pub mod Values

@@ -10,7 +10,7 @@ use Rattle.eco_ids.specs.Births.{Creates, may_create, MakesComponent, may_make_c
 use Rattle.eco_ids.specs.Outcome.{Refuses, Answers, Meets}
 use Rattle.eco_ids.specs.Terms.{QueryTerm}
 use Rattle.eco_ids.specs.World.{WorldState, has, is_alive, living}
-use Rattle.eco_answers.specs.Answers.{asked}
+use Rattle.eco_store.specs.Answers.{asked}
 use Rattle.eco_ids.specs.Run as run
 use Rattle.eco_grammar.specs.Readings.{ok_map}
 use Rattle.eco_world.specs.Cached.{AddsQuery}
@@ -24,14 +24,14 @@ use Rattle.eco_bodies.specs.declared.systems.System.{System}
 use Rattle.eco_frame.specs.Reports.{FrameDone, IsFrameBy}
 use Rattle.eco_frame.specs.Stops.{IsWhy}
 use Rattle.eco_frame.specs.declared.stop.FrameStop.{FrameStop}
-use Rattle.eco_formats.specs.Recording.{ReadsActions, ReadsChange, ReadsCommands, has_stages}
-use Rattle.eco_formats.specs.References.{ReadsEntity, ReadsId, ReadsQuery}
+use Rattle.eco_script.specs.Recording.{ReadsActions, ReadsChange, ReadsCommands, has_stages}
+use Rattle.eco_script.specs.References.{ReadsEntity, ReadsId, ReadsQuery}
 use Rattle.eco_script.specs.States.{NamedSystem, ScriptState, name_refusal, script_system}
 use Rattle.eco_script.specs.Systems.{model_by, named, recorded_by, handles_taken}
 use Rattle.eco_steps.specs.Actions as texts
 use Rattle.eco_steps.specs.Commands.{WrittenChange}
 use Rattle.eco_steps.specs.Steps as step
-use Rattle.eco_formats.specs.Values.{Shown, shown_value}
+use Rattle.eco_script.specs.Values.{Shown, shown_value}
 
 -- what a step answers where it is done: that it is done, who was made, whether it is so, a value or none, one entity, all
 -- living ones, the results of a query, the number of a query that was added, the outcomes of the commands of a merge, what a frame

@@ -1,7 +1,7 @@
 -- What a run of the program writes.
 use Rattle.std.specs.Prelude.{◌≡◌, ◌⊎◌, ℕ, List, Option, Some, None, IfSome}
 use Rattle.std.specs.Io.KnownBytes.{Appends, Keeps}
-use Rattle.eco_devices.specs.Beginning.{IsBeginning}
+use Rattle.eco_steps.specs.Beginning.{IsBeginning}
 use Rattle.eco_ids.specs.World.{WorldState}
 use Rattle.eco_steps.specs.Script.{WrittenScript, IsScript}
 use Rattle.eco_script.specs.States.{ScriptState, first_state}

@@ -11,7 +11,7 @@ use Rattle.eco_query.specs.Queries.{QuerySlot}
 use Rattle.eco_bodies.specs.Actions.{first_action_refusal, is_kill, script_writes}
 use Rattle.eco_bodies.specs.declared.action.Action.{Action}
 use Rattle.eco_steps.specs.Actions as texts
-use Rattle.eco_formats.specs.Recording.{ReadsActions}
+use Rattle.eco_script.specs.Recording.{ReadsActions}
 use Rattle.eco_bodies.specs.Scripts.{script_commands, script_taken}
 use Rattle.eco_bodies.specs.declared.script.Script.{Script}
 use Rattle.eco_bodies.specs.declared.systems.System.{System}

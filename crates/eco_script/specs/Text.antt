@@ -11,7 +11,7 @@ use Rattle.eco_ids.specs.Text.{entity_text}
 use Rattle.eco_ids.specs.World.{WorldState}
 use Rattle.eco_frame.specs.Reports.{FrameDone}
 use Rattle.eco_frame.specs.declared.stop.FrameStop.{FrameStop}
-use Rattle.eco_formats.specs.Lines.{line_of, row_line, shown_text}
+use Rattle.eco_script.specs.Lines.{line_of, row_line, shown_text}
 use Rattle.eco_script.specs.Replies.{Reply, done, made, truth, got, shown, listed, found, kept, merged, framed, stopped, StepReplies}
 use Rattle.eco_script.specs.States.{ScriptState}
 use Rattle.eco_steps.specs.Steps.{WrittenStep}

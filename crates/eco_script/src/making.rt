@@ -1,11 +1,11 @@
 //! Changes of a world that texts ask for, made.
 ghost use Rattle.eco_ids.specs.Outcome.{Meets};
 ghost use Rattle.eco_ids.specs.Run as run;
-ghost use Rattle.eco_formats.specs.Changes.{named_command};
+ghost use Rattle.eco_script.specs.Changes.{named_command};
 ghost use Rattle.eco_script.specs.Replies.{Changes};
 ghost use Rattle.eco_steps.specs.Views.{change_view};
 
-use eco_formats::{Change, read_change};
+use crate::{Change, read_change};
 use eco_ids::Refusal;
 use eco_steps::WrittenChange;
 use eco_world::World;

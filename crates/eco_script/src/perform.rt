@@ -11,8 +11,8 @@ ghost use Rattle.eco_steps.specs.Views.{actions_view, change_view, stages_view, 
 
 use crate::making::make_change;
 use crate::reply::Reply;
+use crate::{ShownValue, read_actions, read_entity, read_id, read_query, record_stages};
 use eco_bodies::{Script, Systems};
-use eco_formats::{ShownValue, read_actions, read_entity, read_id, read_query, record_stages};
 use eco_frame::{StagePool, run_frame_with};
 use eco_ids::Refusal;
 use eco_steps::{Actions, Stages, WrittenChange, WrittenStep};

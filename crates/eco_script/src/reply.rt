@@ -3,11 +3,11 @@
 ghost use Rattle.std.specs.Prelude.{◌≡◌, ◌+◌, ◌≤◌, ◌++◌, length, IfOk, OnOk, string_bytes, flat_map};
 ghost use Rattle.eco_systems.specs.Batches.{joined};
 ghost use Rattle.eco_script.specs.Answers.{answer_view, reply_view};
-ghost use Rattle.eco_formats.specs.Lines.{line_of, row_line};
+ghost use Rattle.eco_script.specs.Lines.{line_of, row_line};
 ghost use Rattle.eco_script.specs.Text.{command_line, command_lines, framed_lines, outcome_line, refused_line, reply_lines};
 ghost use Rattle.eco_script.specs.Text.{step_lines, stopped_line};
 
-use eco_formats::{EntityLine, RowLine, ShownValue};
+use crate::{EntityLine, RowLine, ShownValue};
 use eco_frame::{FrameReport, FrameStop};
 use eco_ids::{Entity, Refusal};
 use eco_world::{QueryId, Report, Results, World};

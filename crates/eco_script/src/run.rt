@@ -3,7 +3,7 @@
 ghost use Rattle.std.specs.Prelude.{◌≡◌, ◌≢◌, ℕ, ◌+◌, ◌^◌, ◌<◌, ◌≤◌, List, [], ◌++◌, All, Some, IfOk, OnOk, OnErr};
 ghost use Rattle.std.specs.Prelude.{IsErrOf, IsNone, IsSomeAnd, map, string_bytes};
 ghost use Rattle.std.specs.Io.KnownBytes.{Appends};
-ghost use Rattle.eco_devices.specs.Beginning.{IsBeginning};
+ghost use Rattle.eco_steps.specs.Beginning.{IsBeginning};
 ghost use Rattle.eco_ids.specs.World.{WorldState};
 ghost use Rattle.eco_script.specs.Run.{RanTo, WasNotRead, WasStopped};
 ghost use Rattle.eco_script.specs.States.{ScriptState};
@@ -16,9 +16,8 @@ use crate::fault::Fault;
 use crate::status::Status;
 use crate::{perform, reply};
 use eco_bodies::Systems;
-use eco_devices::{DeviceFailed, ScriptReader, ScriptWriter};
 use eco_frame::StagePool;
-use eco_steps::{ReadError, WrittenScript, WrittenStep};
+use eco_steps::{DeviceFailed, ReadError, ScriptReader, ScriptWriter, WrittenScript, WrittenStep};
 use eco_world::World;
 use serde_json::Value;
 use std::alloc::{AllocError, Global};
@@ -61,7 +60,7 @@ fn write_many<W: ScriptWriter>(writer: &mut W, text: &mut String) -> Result<(), 
     ensures counts_one { OnErr result (W.failures writer.new ≡ W.failures writer.old + 1) }
 {
     if text.len() >= GATHERED {
-        eco_devices::write_all(writer, text.as_str().as_bytes())?;
+        eco_steps::write_all(writer, text.as_str().as_bytes())?;
         text.clear();
     }
     Ok(())
@@ -109,7 +108,7 @@ fn run_steps<R: Threads + Sync, W: ScriptWriter>(
             return Err(Fault::Device);
         };
     }
-    match eco_devices::write_all(writer, text.as_str().as_bytes()) {
+    match eco_steps::write_all(writer, text.as_str().as_bytes()) {
         Ok(()) => Ok(()),
         Err(_) => Err(Fault::Device),
     }
@@ -186,7 +185,7 @@ pub fn run_world<T: Threads + Sync, R: ScriptReader, W: ScriptWriter>(
     ensures no_world { result.0 ≢ Status.Ran → IsNone result.1 }
     ensures reads { R.calls reader.new ≤ R.calls reader.old + 16777216 }
 {
-    let bytes = match eco_devices::read_all(alloc, reader) {
+    let bytes = match eco_steps::read_all(alloc, reader) {
         Ok(bytes) => bytes,
         Err(_) => return (Status::Stopped, None),
     };

@@ -3,4 +3,3 @@ pub mod Counted
 pub mod Fields
 pub mod InTurn
 pub mod Keeping
-pub mod Merges

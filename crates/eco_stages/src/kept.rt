@@ -14,11 +14,16 @@ use std::alloc::{AllocError, Global};
 /// the sets of values of one width stand in one, so that a merge reads no more than was recorded.
 #[derive(Debug)]
 pub struct Kept {
-    pub(crate) ones: Vec<RunSet<1>>,
-    pub(crate) threes: Vec<RunSet<3>>,
-    pub(crate) eights: Vec<RunSet<8>>,
-    pub(crate) ids: Vec<Id>,
-    pub(crate) names: Vec<Option<String>>,
+    /// Sets of values of one field.
+    pub ones: Vec<RunSet<1>>,
+    /// Sets of values of up to three fields.
+    pub threes: Vec<RunSet<3>>,
+    /// Sets of wider values.
+    pub eights: Vec<RunSet<8>>,
+    /// The ids that sets have in turn.
+    pub ids: Vec<Id>,
+    /// The names that are given, or none.
+    pub names: Vec<Option<String>>,
 }
 
 // By hand, so that dropping it is one call: a derived drop is proved anew at each early return of whoever holds it.

@@ -1,14 +1,12 @@
 //! Stages: commands that are recorded now and done later by the world into which they are merged, what they answered then, and
-//! where who records draws fresh handles.
+//! where who records draws fresh handles. `eco_merges` does them.
 #![tactic(auto)]
 
 mod command;
-mod copying;
 mod draws;
 mod iter;
 mod kept;
 pub mod laws;
-mod merging;
 mod outcomes;
 mod recorded;
 mod report;
@@ -17,11 +15,9 @@ mod stage;
 mod width;
 
 pub use command::Command;
-pub use copying::copies_of;
 pub use draws::Draws;
 pub use iter::Iter;
 pub use kept::Kept;
-pub use merging::{MergeTarget, apply_stages, room_for};
 pub use outcomes::Outcomes;
 pub use recorded::{MOST_IN_TURN, Recorded};
 pub use report::Report;

@@ -1,4 +1,5 @@
 pub mod Actions
+pub mod Beginning
 pub mod Commands
 pub mod Decode
 pub mod Laws

@@ -8,11 +8,11 @@ use Rattle.eco_store.proofs.Common.{admitted, TableState, retyped_row, Place, Cr
 use Rattle.eco_store.proofs.Common.{IsSeated, held_of, row_at, SameRows, CreatesRecord, record_name, record_for, read, seat_in, seat_at, HasPlace, IsStore}
 use Rattle.eco_store.proofs.Common.{newborn, slice_get_within, Decides-ltb, slice_get-set_there, slice_get-set_other, map-replicate, record_at}
 use Rattle.eco_tables.specs.Tables.{new_row as row_of}
-use Rattle.eco_places.specs.Seats.{held_in_seat}
+use Rattle.eco_archetypes.specs.Seats.{held_in_seat}
 use Rattle.eco_store.proofs.RowChanges.{rows_pushed}
 use Rattle.eco_store.proofs.SeatChanges.{Pushed, pushed_change}
 use Rattle.eco_store.proofs.Views.{alike_but, alike_set, at_each, bare, seen_alike}
-use Rattle.eco_places.proofs.Seated.{each_state, read_at}
+use Rattle.eco_archetypes.proofs.Seated.{each_state, read_at}
 use Rattle.eco_store.proofs.Newborn.{create_done, create_made, create_refused, refused, Vacant, born_here, born_other, born_limit, next_is}
 use Rattle.eco_store.proofs.StoreChanges.{same_read}
 

@@ -11,8 +11,8 @@ use Rattle.std.proofs.Math.ListN.{drop_of_length-le}
 use Rattle.indexmap.proofs.MapLemmas.{swap_remove_last}
 use Rattle.eco_store.proofs.Dying.{nobody_dies, one_dies}
 use Rattle.eco_store.proofs.StoreChanges.{out_read, out_store, still_lives, same_read, same_store}
-use Rattle.eco_places.proofs.Seated.{place_from_seat, alive_same}
-use Rattle.eco_places.proofs.Shows.{has_place}
+use Rattle.eco_archetypes.proofs.Seated.{place_from_seat, alive_same}
+use Rattle.eco_archetypes.proofs.Shows.{has_place}
 use Rattle.eco_store.proofs.Views.{at_each}
 
 abbrev pub no_entity : Entity

@@ -53,12 +53,12 @@ pub use Rattle.eco_ids.specs.declared.refusal.Refusal.TheVariants.{BadName, Name
 pub use Rattle.eco_ids.specs.declared.value.Value.{Value}
 pub use Rattle.eco_index.specs.Edges.{exchanged, toggled}
 pub use Rattle.eco_index.specs.TypeMap.{same_ids}
-pub use Rattle.eco_places.specs.Deaths.{after_deaths, death_at, with_deaths}
-pub use Rattle.eco_places.specs.Records.{Tries, has_in_store, held_in_store, record_ids, stepped, type_in_store, with_toggled, with_type}
-pub use Rattle.eco_places.specs.Retyping.{IsOneWay, IsTypeBy, after_change, after_changes, changed_record}
-pub use Rattle.eco_places.specs.Seats.{IsSeated, Seat, held_of, seat_of, seated_entity}
-pub use Rattle.eco_places.specs.Shown.{HasPlace, IsShown, IsStore, Stands, held_at, read, record_for, seat_at, seat_in, seat_of_place}
-pub use Rattle.eco_places.specs.declared.type_change.TypeChange.{TypeChange}
+pub use Rattle.eco_archetypes.specs.Deaths.{after_deaths, death_at, with_deaths}
+pub use Rattle.eco_archetypes.specs.Records.{Tries, has_in_store, held_in_store, record_ids, stepped, type_in_store, with_toggled, with_type}
+pub use Rattle.eco_archetypes.specs.Retyping.{IsOneWay, IsTypeBy, after_change, after_changes, changed_record}
+pub use Rattle.eco_archetypes.specs.Seats.{IsSeated, Seat, held_of, seat_of, seated_entity}
+pub use Rattle.eco_archetypes.specs.Shown.{HasPlace, IsShown, IsStore, Stands, held_at, read, record_for, seat_at, seat_in, seat_of_place}
+pub use Rattle.eco_archetypes.specs.declared.type_change.TypeChange.{TypeChange}
 pub use Rattle.eco_store.specs.Layout.{Carries, IsLaid, IsLaidBeside, IsLaidBut, IsSettled, LosesRows, MovesRow, Plans, PutsRow, RetypesRow, SetsRows}
 pub use Rattle.eco_store.specs.Layout.{TakesRow, TurnsTable, rows_in, seen}
 pub use Rattle.eco_store.specs.Moving.{AdmitsRow, AreMovesReady, AreTyped, HasRoomFor, LeavesRoom, after_move, after_moves, arriving}

@@ -7,7 +7,7 @@ use Rattle.eco_store.proofs.Common.{no_table, AllHaveIds, toggled, KeepsRoom, Ke
 use Rattle.eco_store.proofs.Common.{IsLaid, arriving, AdmitsRow, LeavesRoom, TurnsTable, all_staying, read, record_ids, stepped, type_in_store, with_toggled}
 use Rattle.eco_store.proofs.Laid.{laid_slots}
 use Rattle.eco_store.proofs.Stepping.{leads_to, standing_type}
-use Rattle.eco_places.proofs.Seated.{row_within, alive_same}
+use Rattle.eco_archetypes.proofs.Seated.{row_within, alive_same}
 use Rattle.eco_store.proofs.StoreChanges.{same_read}
 use Rattle.eco_store.proofs.Taking.{takes_row, takes_rowless}
 use Rattle.eco_store.proofs.Values.{written_read, written_store}

@@ -5,7 +5,7 @@ use Rattle.eco_store.proofs.Common.{get_or-map, length-map, Contains-from_any, s
 use Rattle.eco_store.proofs.Common.{is_found_by, type_at, IsTypeBy, IsShown, type_there}
 use Rattle.std.proofs.lemmas.Map.Made.{AllPairs-from_IsDistinct}
 use Rattle.eco_index.proofs.Listings.{listed_at}
-use Rattle.eco_places.proofs.Holders.{found_matches, found_rows, has_found, row_kept, some_kept, first_row}
+use Rattle.eco_archetypes.proofs.Holders.{found_matches, found_rows, has_found, row_kept, some_kept, first_row}
 
 found_there : (test : List Id → Bool) (o : Option TableState) → is_found_by test o ≡ true → IsSome o
 found_there test None h = absurd (true≢false (sym h))

@@ -3,7 +3,7 @@ use Rattle.eco_store.proofs.Common.{◌≡◌, ◌≤◌, ℕ, List, Option, Som
 use Rattle.eco_store.proofs.Common.{TableState, AllHaveIds, no_table, slot_of, type_at, MeetsNeeds, arity_in_store, read, IsStore}
 use Rattle.eco_store.specs.Lent.{AreTablesOf, KeepData, KeepsData}
 use Rattle.eco_store.proofs.Needing.{needed}
-use Rattle.eco_places.proofs.Shows.{shows}
+use Rattle.eco_archetypes.proofs.Shows.{shows}
 
 pub kept_data : (w : Indexed Registration) (s : List (Option TableState)) → MeetsNeeds (need w) s → KeepData (read w s) s
 kept_data w s covers n i k at =

@@ -4,7 +4,7 @@ use Rattle.eco_store.proofs.Common.{none-some, same_Some, slice_get-get_or, slic
 use Rattle.eco_store.proofs.Common.{TableState, TableRow, table_in, Seat, seat_of, IsStore, seat_at, seat_in}
 use Rattle.indexmap.proofs.IndexTableLemmas.Probe.{pigeonhole}
 use Rattle.eco_entities.specs.Rules.{IsRuled}
-use Rattle.eco_places.proofs.Seated.{row_within}
+use Rattle.eco_archetypes.proofs.Seated.{row_within}
 
 seat_known : (o : Option (IndexState Registration)) (s : Seat) → seat_in o ≡ Some s → (x : IndexState Registration) × (o ≡ Some x)
 seat_known None s h = absurd (none-some s h)

@@ -13,9 +13,9 @@ use Rattle.eco_ids.specs.World.{padded}
 use Rattle.std.proofs.lemmas.List.Elements.{All-cons}
 use Rattle.std.proofs.lemmas.Option.{get_or_from_slice_get}
 use Rattle.eco_ids.specs.Data.{is_zero_past}
-use Rattle.eco_places.proofs.Seated.{held_there, place_from_seat, read_record, row_within, seat_there}
-use Rattle.eco_places.specs.Records.{has_in_store}
-use Rattle.eco_places.specs.Seats.{seat_of}
+use Rattle.eco_archetypes.proofs.Seated.{held_there, place_from_seat, read_record, row_within, seat_there}
+use Rattle.eco_archetypes.specs.Records.{has_in_store}
+use Rattle.eco_archetypes.specs.Seats.{seat_of}
 use Rattle.eco_tables.specs.Tables.{row_in}
 use Rattle.eco_store.proofs.Values.{written_read, written_store}
 use Rattle.eco_store.proofs.Views.{at_each}

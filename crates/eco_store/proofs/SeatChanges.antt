@@ -1,8 +1,8 @@
 -- What a row taken out and a row put in leave of the seats.
 use Rattle.eco_store.proofs.Common.{◌≡◌, ◌≢◌, ℕ, Option, Some, None, option_map, refl, sym, ap, subst, ◌∙◌, inl, inr, cases_eq, Entity}
 use Rattle.eco_store.proofs.Common.{TableRow, Seat, IsSeated, seated_entity, seat_of, held_of}
-use Rattle.eco_places.specs.Seats.{held_in_seat}
-use Rattle.eco_places.proofs.Seated.{no_some, one_some}
+use Rattle.eco_archetypes.specs.Seats.{held_in_seat}
+use Rattle.eco_archetypes.proofs.Seated.{no_some, one_some}
 
 -- the row of the table f went; the last one, m, took its place
 pub record Removed (E E' : ℕ → ℕ → Option TableRow) (f row last : ℕ) : Type 0 where

@@ -6,7 +6,7 @@ use Rattle.eco_store.proofs.Common.{id_eq_itself, set_own, living_at, Place, Reg
 use Rattle.eco_store.proofs.Common.{AllHaveIds, IsStore, has_in_store, read, record_ids, type_in_store, with_type}
 use Rattle.eco_ids.proofs.Exact.{keys_find}
 use Rattle.eco_ids.proofs.IdOrder.{id_cmp_total}
-use Rattle.eco_places.proofs.Seated.{held_there, read_record, row_within}
+use Rattle.eco_archetypes.proofs.Seated.{held_there, read_record, row_within}
 
 -- an entity's type is that of its table
 pub standing_type : (w : Indexed Registration) (s : List (Option TableState)) (e : Entity) (p : Place) → IsStore w s → own_place w e ≡ Some p

@@ -7,10 +7,10 @@ use Rattle.eco_store.proofs.Common.{Retired, Free, Living, record_of, with_death
 use Rattle.eco_store.proofs.Common.{slice_get-set_other, living_at, record_at, retyped, TableState, TableRow, entities_of, retyped_row, row_in}
 use Rattle.eco_store.proofs.Common.{no_row, row_at, SameRows, Place, Registration, placed, own_place, rows_in, MovesRow, fixed, Seat, IsSeated, seated_entity}
 use Rattle.eco_store.proofs.Common.{seat_of, held_of, record_for, held_at, read, seat_in, seat_at, HasPlace, IsStore, with_type}
-use Rattle.eco_places.specs.Seats.{held_in_seat}
+use Rattle.eco_archetypes.specs.Seats.{held_in_seat}
 use Rattle.eco_store.proofs.RowChanges.{between_rows, moves_removes, moves_pushes, rows_removed, swap_at_row, swap_at_last, is_equal}
 use Rattle.eco_store.proofs.SeatChanges.{Pushed, pushed_change, removed_change}
-use Rattle.eco_places.proofs.Seated.{no_some, one_some, read_at, place_from_seat, placed_record, seat_there, read_record, row_within}
+use Rattle.eco_archetypes.proofs.Seated.{no_some, one_some, read_at, place_from_seat, placed_record, seat_there, read_record, row_within}
 use Rattle.eco_store.proofs.Views.{alike_set, at_each, bare, bare_at, changed_at, raised_either, seen_alike}
 
 -- the same rows, as one function

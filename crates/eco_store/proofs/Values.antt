@@ -11,9 +11,9 @@ use Rattle.eco_store.proofs.Common.{slice_get-set_other, living_at, map-set}
 use Rattle.eco_ids.specs.Names.{is_proper, is_same_name}
 use Rattle.eco_ids.specs.Renaming.{own_name, unfit_rename, RenamesWith, may_rename}
 use Rattle.eco_ids.specs.Step.{with_name}
-use Rattle.eco_places.specs.Seats.{held_in_seat}
-use Rattle.eco_places.proofs.Seated.{one_some, placed_record, seat_there, read_record, row_within, held_there}
-use Rattle.eco_places.proofs.Seated.{read_at, record_of-read, alive_same}
+use Rattle.eco_archetypes.specs.Seats.{held_in_seat}
+use Rattle.eco_archetypes.proofs.Seated.{one_some, placed_record, seat_there, read_record, row_within, held_there}
+use Rattle.eco_archetypes.proofs.Seated.{read_at, record_of-read, alive_same}
 use Rattle.eco_store.proofs.SeatChanges.{rewritten_seated, who}
 use Rattle.eco_store.proofs.Newborn.{is_borne-map}
 use Rattle.eco_store.proofs.Views.{alike_set, at_each, changed_at, seen_alike}

@@ -4,8 +4,8 @@ use Rattle.eco_store.proofs.Common.{IsTrue, refl, sym, subst, ◌∙◌, ◌+◌
 use Rattle.eco_store.proofs.Common.{Record, Entity, Id, Value, changed, change_kept, Indexed, IndexState, Retired, Free, Living, record_of, is_alive, map_state}
 use Rattle.eco_store.proofs.Common.{raised, TableState, TableRow, Place, Registration, row_at, record_for, held_at, read, seat_in, seat_at, seat_of_place}
 use Rattle.eco_store.proofs.Common.{slice_get-set_there, slice_get-set_other, living_at}
-use Rattle.eco_places.specs.Seats.{held_in_seat}
-use Rattle.eco_places.proofs.Seated.{read_at}
+use Rattle.eco_archetypes.specs.Seats.{held_in_seat}
+use Rattle.eco_archetypes.proofs.Seated.{read_at}
 
 -- what holds of one number and of each other holds of all
 pub at_each : (n : ℕ) (C : ℕ → Type 0) → C n → ((m : ℕ) → m ≢ n → C m) → (m : ℕ) → C m

@@ -13,8 +13,8 @@ use Rattle.eco_entities.specs.Rules.{IsRuled}
 use Rattle.eco_store.proofs.Retyping.{other_type, own_type}
 use Rattle.eco_store.proofs.RowChanges.{is_equal}
 use Rattle.eco_store.proofs.RowCounts.{rows_bounded}
-use Rattle.eco_places.proofs.Seated.{no_some, one_some, place_from_seat, each_state}
-use Rattle.eco_places.proofs.Shows.{has_place}
+use Rattle.eco_archetypes.proofs.Seated.{no_some, one_some, place_from_seat, each_state}
+use Rattle.eco_archetypes.proofs.Shows.{has_place}
 use Rattle.eco_store.proofs.Views.{alike_set, ext_slice_get}
 
 slice_get-front : {X : Type 0} (xs ys : List X) (i : ℕ) → i < length xs → slice_get (xs ++ ys) i ≡ slice_get xs i

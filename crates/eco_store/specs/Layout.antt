@@ -16,8 +16,8 @@ use Rattle.eco_archetypes.specs.Widths.{MeetsNeeds}
 use Rattle.eco_store.specs.declared.layout.Layout.{Layout}
 use Rattle.eco_store.specs.Moving.{AdmitsRow, LeavesRoom}
 use Rattle.eco_store.specs.Staying.{only_idle, all_staying, SameIn}
-use Rattle.eco_places.specs.Shown.{IsStore, read}
-use Rattle.eco_places.specs.Records.{stepped, Tries}
+use Rattle.eco_archetypes.specs.Shown.{IsStore, read}
+use Rattle.eco_archetypes.specs.Records.{stepped, Tries}
 use Rattle.eco_store.specs.Transfers.{Pours, Thins}
 
 -- what is seen of a layout: the record of each living entity

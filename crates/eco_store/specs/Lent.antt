@@ -8,7 +8,7 @@ use Rattle.eco_tables.specs.Table.{TableState, width_in}
 use Rattle.eco_tables.specs.Tables.{table_in}
 use Rattle.eco_archetypes.specs.Archetypes.{type_at}
 use Rattle.eco_store.specs.Store.{arity_in_store}
-use Rattle.eco_places.specs.Shown.{IsShown}
+use Rattle.eco_archetypes.specs.Shown.{IsShown}
 
 -- the table keeps as many fields of each of its ids as the id's arity says: what is data has a column
 abbrev pub KeepsData : Indexed Record → TableState → Type 0

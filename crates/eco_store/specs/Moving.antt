@@ -8,7 +8,7 @@ use Rattle.eco_tables.specs.Table.{TableState}
 use Rattle.eco_tables.specs.Tables.{table_in}
 use Rattle.eco_archetypes.specs.Archetypes.{type_at}
 use Rattle.eco_store.specs.declared.moving.Move.{Move}
-use Rattle.eco_places.specs.Records.{with_type}
+use Rattle.eco_archetypes.specs.Records.{with_type}
 
 -- the store after a move of one entity: its ids are those of the type; values of ids that were there stay, and new ids hold
 -- zeros. An entity that does not live changes nothing.

@@ -5,7 +5,7 @@ use Rattle.eco_ids.specs.Indices.{Indexed, changed, is_alive}
 use Rattle.eco_ids.specs.World.{Record, padded}
 use Rattle.eco_ids.specs.declared.entity.Entity.{Entity}
 use Rattle.eco_ids.specs.declared.id.Id.{Id}
-use Rattle.eco_places.specs.Records.{has_in_store}
+use Rattle.eco_archetypes.specs.Records.{has_in_store}
 use Rattle.eco_store.specs.Store.{record_with_written}
 
 -- the store with the values of the sets at the id, one set after another

@@ -8,7 +8,7 @@ use Rattle.eco_entities.specs.Registration.{Registration}
 use Rattle.eco_tables.specs.Table.{TableState}
 use Rattle.eco_tables.specs.Tables.{slot_of, table_in}
 use Rattle.eco_store.specs.declared.transfer.Transfer.{Transfer}
-use Rattle.eco_places.specs.declared.type_change.TypeChange.{TypeChange}
+use Rattle.eco_archetypes.specs.declared.type_change.TypeChange.{TypeChange}
 use Rattle.eco_archetypes.specs.Archetypes.{type_at, SameTypes}
 use Rattle.eco_store.specs.Staying.{KeepsRoomIn}
 

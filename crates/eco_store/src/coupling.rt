@@ -6,7 +6,7 @@ ghost use Rattle.eco_entities.specs.Registration.{own_place};
 ghost use Rattle.eco_ids.specs.Indices.{is_alive};
 ghost use Rattle.eco_ids.specs.Order.{entity_eq};
 ghost use Rattle.eco_store.specs.Layout.{seen, Attempts, IsLaid, StepsBeside, TurnsTable};
-ghost use Rattle.eco_places.specs.Records.{stepped};
+ghost use Rattle.eco_archetypes.specs.Records.{stepped};
 ghost use Rattle.eco_tables.specs.Tables.{table_in};
 
 use crate::layout::Layout;

@@ -2,9 +2,9 @@
 ghost use Rattle.std.specs.Prelude.{◌≡◌, map, IsTrue};
 ghost use Rattle.eco_ids.specs.Indices.{is_alive, with_death};
 ghost use Rattle.eco_ids.specs.Order.{entity_cmp, has_item};
-ghost use Rattle.eco_places.specs.Deaths.{after_deaths};
+ghost use Rattle.eco_archetypes.specs.Deaths.{after_deaths};
 ghost use Rattle.eco_store.specs.Layout.{seen, IsLaid, LosesRows};
-ghost use Rattle.eco_places.specs.Retyping.{after_changes, IsOneWay};
+ghost use Rattle.eco_archetypes.specs.Retyping.{after_changes, IsOneWay};
 ghost use Rattle.eco_store.specs.Transfers.{change_of, AreTransfersReady};
 
 use crate::layout::Layout;

@@ -8,19 +8,36 @@
 //!
 //! Each id has a value, zeros when new. A table keeps as many fields of it as the arities of the entities in the id say, and all
 //! where they are not known yet; whether an id is data is not known here.
+//!
+//! What a query answers on a store is made here too ([`Asking`], [`Results`]): the entries are made once for each table, and all rows
+//! of a table share them.
 #![tactic(auto)]
 
+mod asking;
+mod blocks;
 mod coupling;
 mod deaths;
+mod entries;
+mod fixed;
+mod iter;
 mod layout;
 mod moving;
 mod placing;
+mod ranked;
+mod results;
+mod searching;
+mod standing;
 mod staying;
 mod store;
 mod transfer;
+mod walking;
 
-pub use eco_archetypes::{AllOf, Archetypes, Found, NamingTest, Seed, TypeTest};
-pub use eco_places::{Places, Population, TypeChange};
+pub use asking::Asking;
+pub use eco_archetypes::{
+    AllOf, Archetypes, Found, NamingTest, Places, Population, Seed, TypeChange, TypeTest,
+};
 pub use eco_tables::{Table, Tables};
+pub use iter::ResultIter;
 pub use moving::Move;
+pub use results::{Results, results_of};
 pub use store::Store;

@@ -4,7 +4,7 @@ ghost use Rattle.eco_tables.specs.Tables.{slot_of, table_in};
 ghost use Rattle.eco_ids.specs.Indices.{changed};
 ghost use Rattle.eco_store.specs.Layout.{seen, Carries, IsLaid};
 ghost use Rattle.eco_store.specs.Moving.{after_moves, AreMovesReady};
-ghost use Rattle.eco_places.specs.Records.{with_type};
+ghost use Rattle.eco_archetypes.specs.Records.{with_type};
 
 use crate::layout::Layout;
 use eco_ids::{Entity, TableSlot, TypeList};

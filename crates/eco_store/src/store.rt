@@ -13,8 +13,8 @@ ghost use Rattle.eco_entities.specs.Registration.{entity_at, given_name};
 ghost use Rattle.eco_tables.specs.Table.{TableRow};
 ghost use Rattle.eco_store.specs.Store.{Admission, CreatesRecord, RenamesRecord, MakesRecordAlive};
 ghost use Rattle.eco_store.specs.Store.{own_arity_in_store, fits_in_store, record_name, record_with_written};
-ghost use Rattle.eco_places.specs.Records.{held_in_store, type_in_store};
-ghost use Rattle.eco_places.specs.Shown.{Stands};
+ghost use Rattle.eco_archetypes.specs.Records.{held_in_store, type_in_store};
+ghost use Rattle.eco_archetypes.specs.Shown.{Stands};
 ghost use Rattle.eco_store.specs.Lent.{AreTablesOf, IsTableOf, KeepsData};
 
 use crate::layout::Layout;

@@ -2,8 +2,8 @@
 ghost use Rattle.std.specs.Prelude.{◌≡◌, ◌≢◌, ◌≤◌, length, map, IsSome};
 ghost use Rattle.eco_tables.specs.Tables.{slot_of, table_in};
 ghost use Rattle.eco_store.specs.Layout.{seen, Empties, IsLaid};
-ghost use Rattle.eco_places.specs.Retyping.{after_change, after_changes, IsOneWay};
-ghost use Rattle.eco_places.specs.Shown.{IsStore};
+ghost use Rattle.eco_archetypes.specs.Retyping.{after_change, after_changes, IsOneWay};
+ghost use Rattle.eco_archetypes.specs.Shown.{IsStore};
 ghost use Rattle.eco_store.specs.Transfers.{change_of, with_places, IsNamed, AreTransfersReady};
 
 use crate::layout::Layout;

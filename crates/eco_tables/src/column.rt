@@ -58,7 +58,7 @@ mod narrow;
 mod runs;
 mod wide;
 
-use fields::{copied, join_zeros, push_zeros, put, read, read_told, shrink, take_out};
+use fields::{copied, empty, join_zeros, push_zeros, put, read, read_told, shrink, take_out};
 use narrow::Narrow;
 use wide::Wide;
 
@@ -348,6 +348,6 @@ impl Column {
     pub fn clear(&mut self)
         ensures { self.new ≡ emptied self.old }
     {
-        at_each_width!(&mut self.fields, |rows| rows.clear())
+        at_each_width!(&mut self.fields, |rows| empty(rows))
     }
 }

@@ -1,5 +1,12 @@
 pub mod Closure
+pub mod Firsts
 pub mod Known
+pub mod Laws
+pub mod Nodes
+pub mod Objections
+pub mod OnlyHolders
+pub mod Plans
+pub mod Policies
+pub mod Prospect
 pub mod Target
 pub mod Walk
-pub mod Prospect

@@ -21,7 +21,7 @@ pub use Rattle.std.specs.List.Sorted.{IsPermutation, IsSortedWithin}
 pub use Rattle.std.specs.Option.{option_copied, option_or}
 pub use Rattle.std.specs.Ordering.{eq_by_cmp, nat_cmp, ordering_reverse, ordering_then}
 pub use Rattle.std.specs.Slice.Iter.{iter_rest}
-pub use Rattle.eco_answers.specs.Answers.{asked}
+pub use Rattle.eco_store.specs.Answers.{asked}
 pub use Rattle.eco_ids.proofs.Ascending.{ascending_with, both, first, first_T, second, second_T, with_present}
 pub use Rattle.eco_ids.proofs.Closures.{zero_sorted, zeros_have}
 pub use Rattle.eco_ids.proofs.Exact.{id_eq_sym, keys_ascending, keys_find, keys_kept, keys_zeros, zero_find}
@@ -76,13 +76,13 @@ pub use Rattle.eco_query.specs.Queries.{QuerySlot, exactly, holds, matches_type}
 pub use Rattle.eco_stages.specs.Merging.{AreDone, all_commands, has_commands}
 pub use Rattle.eco_stages.specs.Outcomes.{Outcomes, Written}
 pub use Rattle.eco_stages.specs.Recorded.{commands_of}
-pub use Rattle.eco_places.specs.Holders.{entities_with, has_match}
+pub use Rattle.eco_archetypes.specs.Holders.{entities_with, has_match}
 pub use Rattle.eco_store.specs.Lent.{KeepData, KeepsData}
-pub use Rattle.eco_places.specs.Shown.{IsShown, Stands}
+pub use Rattle.eco_archetypes.specs.Shown.{IsShown, Stands}
 pub use Rattle.eco_store.specs.Store.{StoreState, newborn, record_name, record_with_written}
-pub use Rattle.eco_places.specs.Records.{record_ids, stepped, with_exchanged, with_toggled, with_type}
-pub use Rattle.eco_places.specs.Worlds.{world_of}
-pub use Rattle.eco_places.specs.declared.type_change.TypeChange.{TypeChange}
+pub use Rattle.eco_archetypes.specs.Records.{record_ids, stepped, with_exchanged, with_toggled, with_type}
+pub use Rattle.eco_archetypes.specs.Worlds.{world_of}
+pub use Rattle.eco_archetypes.specs.declared.type_change.TypeChange.{TypeChange}
 pub use Rattle.eco_tables.specs.Column.{retyped, value_in, with_held}
 pub use Rattle.eco_tables.specs.Table.{HasIds, TableRow, TableState, entities_of, paired, width_in}
 pub use Rattle.eco_tables.specs.Tables.{no_row, no_table, slot_of, table_in}

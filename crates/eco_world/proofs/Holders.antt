@@ -6,7 +6,7 @@ use Rattle.eco_ids.specs.Indices.{living}
 use Rattle.eco_ids.proofs.Pairs.{parts_are_same}
 use Rattle.eco_world.proofs.Held.{keys}
 use Rattle.eco_ids.specs.declared.id.Id.TheVariants as id
-use Rattle.eco_places.specs.Holders as store
+use Rattle.eco_archetypes.specs.Holders as store
 
 -- the pattern matches the id alone
 pub matches_exactly : (i j : Id) → pattern_matches (exactly i) j ≡ id_eq i j

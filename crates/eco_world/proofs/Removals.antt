@@ -9,8 +9,8 @@ use Rattle.eco_world.proofs.Common.{QueryTerm, world_of, symmetric_target, world
 use Rattle.std.specs.List.{Contains}
 use Rattle.eco_ids.specs.Indices.{record_of}
 use Rattle.eco_ids.specs.Laws.{Keeps}
-use Rattle.eco_places.specs.Retyping.{IsTypeWith}
-use Rattle.eco_cleanup.specs.Plans.{TakesOutOfAll}
+use Rattle.eco_archetypes.specs.Retyping.{IsTypeWith}
+use Rattle.eco_traits.specs.Plans.{TakesOutOfAll}
 use Rattle.eco_world.proofs.Holders.{matches_exactly}
 use Rattle.eco_world.proofs.Changes.{sorted_at}
 use Rattle.eco_world.proofs.Losing.{plainly_taken}

@@ -4,7 +4,7 @@ use Rattle.eco_ids.specs.declared.edition.Edition.TheVariants.{Second}
 use Rattle.eco_ids.specs.declared.id.Id.{Id}
 use Rattle.eco_ids.specs.Indices.{Indexed, record_in}
 use Rattle.eco_ids.specs.World.{Record, builtin_states}
-use Rattle.eco_places.specs.Records.{record_ids}
+use Rattle.eco_archetypes.specs.Records.{record_ids}
 
 -- the first n built-ins, and nobody else: those of the first edition come first in the second too
 abbrev pub first_entities : ℕ → ℕ → Indexed Record

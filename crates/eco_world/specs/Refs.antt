@@ -4,7 +4,7 @@ use Rattle.eco_ids.specs.declared.entity.Entity.{Entity}
 use Rattle.eco_ids.specs.World.{WorldState, entities, record_of}
 use Rattle.eco_tables.specs.Table.{TableState}
 use Rattle.eco_store.specs.Lent.{KeepsData}
-use Rattle.eco_places.specs.Shown.{Stands}
+use Rattle.eco_archetypes.specs.Shown.{Stands}
 
 -- an entity of a world, which need not live there
 pub record EntityIn : Type 0 where

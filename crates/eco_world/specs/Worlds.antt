@@ -4,7 +4,7 @@ use Rattle.eco_ids.specs.declared.edition.Edition.{Edition}
 use Rattle.eco_ids.specs.Indices.{Indexed}
 use Rattle.eco_ids.specs.Terms.{QueryTerm}
 use Rattle.eco_ids.specs.World.{WorldState, Record}
-use Rattle.eco_answers.specs.Answers.{asked}
+use Rattle.eco_store.specs.Answers.{asked}
 use Rattle.eco_world.specs.declared.kept_query.KeptQuery.{KeptQuery}
 
 -- the world of these entities and queries, of an edition

@@ -14,9 +14,9 @@ mod type_order;
 mod world;
 
 pub use columns::{Column, Columns};
-pub use eco_answers::Results;
 pub use eco_query::{Access, Query, Slot, Term};
 pub use eco_stages::{Command, Kept, Recorded, Report, RunSet, Stage, Width};
+pub use eco_store::Results;
 pub use eco_tables::Values;
 pub use entity_ref::EntityRef;
 pub use query_id::QueryId;

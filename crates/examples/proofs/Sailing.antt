@@ -5,7 +5,7 @@ use Rattle.eco_ids.specs.declared.entity.Entity.{Entity}
 use Rattle.eco_ids.specs.declared.id.Id.{Id}
 use Rattle.eco_ids.specs.declared.value.Value.{Value}
 use Rattle.eco_ids.specs.Run.{Set}
-use Rattle.eco_typed.specs.Fields.{two}
+use Rattle.eco_frame.specs.Fields.{two}
 use Rattle.examples.specs.declared.typed.position.Position.{Position}
 use Rattle.examples.specs.declared.typed.velocity.Velocity.{Velocity}
 use Rattle.examples.specs.Ships.{position_of, recorded, sailed, velocity_of}

@@ -1,2 +1,3 @@
+pub mod Mixing
 pub mod Ships
 pub mod Wakes

@@ -10,7 +10,7 @@ use Rattle.eco_query.specs.Queries.{exactly}
 use Rattle.eco_systems.specs.Systems.{IsDeclared}
 use Rattle.eco_bodies.specs.Own.{is_only_written}
 use Rattle.eco_bodies.specs.Sums.{bounded_sum}
-use Rattle.eco_typed.specs.Fields.{field, two}
+use Rattle.eco_frame.specs.Fields.{field, two}
 use Rattle.examples.specs.declared.typed.position.Position.{Position}
 use Rattle.examples.specs.declared.typed.velocity.Velocity.{Velocity}
 

@@ -11,7 +11,7 @@ use self::ship_components::ShipComponents;
 use anyhow::Result;
 use eco_frame::run_frame;
 use eco_ids::Refusal;
-use eco_printed::printed;
+use eco_script::printed;
 use eco_world::World;
 use std::alloc::Global;
 use std::thread::Threads;

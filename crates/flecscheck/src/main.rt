@@ -2,7 +2,7 @@
 #![tactic(auto)]
 
 use eco_checker::{Verdict, check_script};
-use eco_devices::Counted;
+use eco_steps::Counted;
 use std::io::Read;
 use std::process::ExitCode;
 use std::{env, fs, io};

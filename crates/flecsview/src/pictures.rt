@@ -4,7 +4,7 @@ use crate::arguments::Request;
 use crate::stopped::Stopped;
 use eco_bodies::{Script, System, Systems};
 use eco_frame::declaration;
-use eco_printed::NamedSystems;
+use eco_script::NamedSystems;
 use eco_world::World;
 use std::alloc::{AllocError, Global};
 use std::fs;
@@ -41,7 +41,7 @@ fn draw_batches(alloc: Global, world: &World, systems: &Systems) -> Result<Strin
         names: names.as_slice(),
         declared: declared.as_slice(),
     };
-    eco_printed::batches_svg(alloc, world, systems)
+    eco_script::batches_svg(alloc, world, systems)
 }
 
 /// Draws what is asked for of a world and systems.
@@ -52,10 +52,10 @@ pub fn draw(
     systems: &Systems,
 ) -> Result<(), Stopped> {
     if let Some(file) = request.tables {
-        write(rt, file, eco_printed::tables_svg(rt.alloc(), world))?;
+        write(rt, file, eco_script::tables_svg(rt.alloc(), world))?;
     }
     if let Some(file) = request.graph {
-        write(rt, file, eco_printed::graph_svg(rt.alloc(), world))?;
+        write(rt, file, eco_script::graph_svg(rt.alloc(), world))?;
     }
     if let Some(file) = request.batches {
         write(rt, file, draw_batches(rt.alloc(), world, systems))?;

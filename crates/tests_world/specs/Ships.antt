@@ -1,6 +1,6 @@
 -- How far ships reach.
 use Rattle.eco_ids.specs.declared.value.Value.{Value}
-use Rattle.eco_typed.specs.Fields.{field}
+use Rattle.eco_frame.specs.Fields.{field}
 use Rattle.tests_world.specs.declared.bounds.Bounds.{Bounds}
 
 -- the bounds of a value's fields

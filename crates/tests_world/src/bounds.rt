@@ -1,10 +1,10 @@
 //! A type with more fields than components of the first edition have.
 ghost use Rattle.std.specs.Prelude.{refl};
-ghost use Rattle.eco_typed.specs.Fields.{six, six_is};
+ghost use Rattle.eco_frame.specs.Fields.{six, six_is};
 ghost use Rattle.tests_world.specs.Ships.{bounds_of};
 
+use eco_frame::Component;
 use eco_ids::Value;
-use eco_typed::Component;
 
 /// How far a ship reaches on each side.
 #[derive(Clone, Copy, PartialEq, Eq)]

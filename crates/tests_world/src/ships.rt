@@ -1,7 +1,7 @@
 //! A ship's bounds are set and read by their type, at once and by a merge.
 use crate::bounds::Bounds;
+use eco_frame::TypedId;
 use eco_ids::{Edition, Entity, Refusal};
-use eco_typed::TypedId;
 use eco_world::{Command, Stage, World};
 use std::alloc::Global;
 

@@ -1,15 +1,14 @@
 //! Queries that are asked again and again keep the slots of the tables whose types fulfil them.
 ghost use Rattle.std.specs.Prelude.{◌≡◌, ◌&&◌, ℕ, cond, true, filter, IfNone, IfOk, IfSome, IsTrue, OnOk, OnErr, nat_eq};
 ghost use Rattle.std.specs.List.{list_any, IsDistinct};
-ghost use Rattle.eco_caches.specs.Caching.{fulfils, AreKept, AreThose};
-ghost use Rattle.eco_entries.specs.Flat.{ChoicesState};
+ghost use Rattle.eco_index.specs.Caching.{fulfils, AreKept, AreThose};
+ghost use Rattle.eco_index.specs.Flat.{ChoicesState};
 ghost use Rattle.eco_archetypes.specs.Archetypes.{type_at, has_rows, ArePassing};
 
 use crate::archetypes::Archetypes;
 use crate::found::{FoundSlots, put_behind, put_in_list};
-use eco_entries::Choices;
 use eco_ids::TableSlot;
-use eco_index::TypeTest;
+use eco_index::{Choices, TypeTest};
 use eco_query::Query;
 use eco_tables::Tables;
 use indexmap::IndexSet;

@@ -1,14 +1,14 @@
 //! Tables without rows go: one by one, or where they are many all at once.
 ghost use Rattle.std.specs.Prelude.{◌++◌, [], ◌∷◌, List, ℕ};
-ghost use Rattle.eco_caches.specs.Caching.{AreExact};
-ghost use Rattle.eco_caches.specs.Contents.{cache_list};
+ghost use Rattle.eco_index.specs.Caching.{AreExact};
+ghost use Rattle.eco_index.specs.CachesContents.{cache_list};
 ghost use Rattle.eco_archetypes.specs.Archetypes.{type_at, RowlessIn, SameRows};
 ghost use Rattle.eco_archetypes.specs.Sweeping.{DropsRowless, IsLess, Sweeps};
 
 use crate::archetypes::Archetypes;
 use crate::occupied::Occupied;
-use eco_caches::Caches;
 use eco_ids::TableSlot;
+use eco_index::Caches;
 use eco_tables::Tables;
 
 // Fewer tables than these go one by one.

@@ -3,9 +3,9 @@ ghost use Rattle.std.specs.Prelude.{◌≡◌, ◌<◌, ◌≤◌, ◌↔◌, �
 ghost use Rattle.eco_archetypes.specs.Widths.{MeetsNeeds};
 ghost use Rattle.eco_entities.specs.Needs.{need};
 ghost use Rattle.eco_ids.specs.Order.{entity_cmp, has_item};
-ghost use Rattle.eco_places.specs.Deaths.{after_deaths, with_deaths};
+ghost use Rattle.eco_archetypes.specs.Deaths.{after_deaths, with_deaths};
 ghost use Rattle.eco_store.specs.Layout.{rows_in, seen, IsLaid, LosesRows};
-ghost use Rattle.eco_places.specs.Shown.{IsStore};
+ghost use Rattle.eco_archetypes.specs.Shown.{IsStore};
 ghost use Rattle.eco_tables.specs.Table.{entities_of};
 ghost use Rattle.eco_tables.specs.Tables.{slot_of};
 

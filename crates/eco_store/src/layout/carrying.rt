@@ -3,7 +3,7 @@ ghost use Rattle.std.specs.Prelude.{◌≡◌, ◌≢◌, ◌<◌, length, Some,
 ghost use Rattle.eco_entities.specs.Registration.{own_place};
 ghost use Rattle.eco_ids.specs.Indices.{changed, is_alive};
 ghost use Rattle.eco_store.specs.Layout.{seen, Carries, IsLaid, IsLaidBeside};
-ghost use Rattle.eco_places.specs.Records.{type_in_store, with_type};
+ghost use Rattle.eco_archetypes.specs.Records.{type_in_store, with_type};
 ghost use Rattle.eco_tables.specs.Tables.{slot_of, table_in};
 
 use crate::layout::Layout;

@@ -12,8 +12,8 @@ ghost use Rattle.eco_store.specs.Staying.{KeepsRoomIn};
 use crate::layout::Layout;
 use crate::moving::Move;
 use crate::transfer::Transfer;
+use eco_archetypes::TypeChange;
 use eco_ids::{Id, TableSlot, TypeList};
-use eco_places::TypeChange;
 use std::alloc::{AllocError, Global};
 
 impl Layout {

@@ -2,13 +2,13 @@
 ghost use Rattle.std.specs.Prelude.{◌≡◌, IsTrue};
 ghost use Rattle.eco_ids.specs.Indices.{is_alive, with_death};
 ghost use Rattle.eco_ids.specs.Order.{entity_cmp, has_item};
-ghost use Rattle.eco_places.specs.Deaths.{after_deaths};
-ghost use Rattle.eco_places.specs.Retyping.{after_changes, IsOneWay};
-ghost use Rattle.eco_places.specs.Records.{Tries};
+ghost use Rattle.eco_archetypes.specs.Deaths.{after_deaths};
+ghost use Rattle.eco_archetypes.specs.Retyping.{after_changes, IsOneWay};
+ghost use Rattle.eco_archetypes.specs.Records.{Tries};
 
 use crate::store::Store;
+use eco_archetypes::TypeChange;
 use eco_ids::Entity;
-use eco_places::TypeChange;
 use std::alloc::AllocError;
 
 impl Store {

@@ -1,7 +1,7 @@
 //! An entity gets one id in the place of another.
 ghost use Rattle.std.specs.Prelude.{◌≡◌, true, false, IsTrue};
 ghost use Rattle.eco_ids.specs.Indices.{changed, is_alive};
-ghost use Rattle.eco_places.specs.Records.{has_in_store, with_exchanged, Tries};
+ghost use Rattle.eco_archetypes.specs.Records.{has_in_store, with_exchanged, Tries};
 
 use crate::store::Store;
 use eco_ids::{Entity, Id};

@@ -2,7 +2,7 @@
 ghost use Rattle.std.specs.Prelude.{◌≡◌, [], Some, IsTrue, IsOk};
 ghost use Rattle.eco_ids.specs.Indices.{changed, is_alive};
 ghost use Rattle.eco_store.specs.Moving.{after_moves};
-ghost use Rattle.eco_places.specs.Records.{type_in_store, with_type, Tries};
+ghost use Rattle.eco_archetypes.specs.Records.{type_in_store, with_type, Tries};
 
 use crate::moving::Move;
 use crate::store::Store;

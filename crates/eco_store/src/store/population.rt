@@ -1,7 +1,7 @@
 //! The store as deletes ask it.
 use crate::store::Store;
+use eco_archetypes::{Places, Population, TypeChange};
 use eco_ids::{Entity, Id};
-use eco_places::{Places, Population, TypeChange};
 use std::alloc::AllocError;
 
 impl Population for Store {

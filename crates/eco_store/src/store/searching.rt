@@ -5,8 +5,8 @@ ghost use Rattle.eco_ids.specs.Indices.{living};
 ghost use Rattle.eco_ids.specs.declared.id.Id.{Id as Ids};
 ghost use Rattle.eco_tables.specs.Tables.{slot_of, table_in};
 ghost use Rattle.eco_archetypes.specs.Archetypes.{IsAllFound};
-ghost use Rattle.eco_places.specs.Holders.{passes, has_match, entities_with, is_holder};
-ghost use Rattle.eco_places.specs.Retyping.{IsTypeWith};
+ghost use Rattle.eco_archetypes.specs.Holders.{passes, has_match, entities_with, is_holder};
+ghost use Rattle.eco_archetypes.specs.Retyping.{IsTypeWith};
 ghost use Rattle.eco_store.specs.Lent.{AreTablesOf};
 
 use crate::store::Store;

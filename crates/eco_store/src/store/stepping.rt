@@ -2,7 +2,7 @@
 ghost use Rattle.std.specs.Prelude.{◌≡◌, false, IsTrue};
 ghost use Rattle.eco_ids.specs.Indices.{is_alive};
 ghost use Rattle.eco_ids.specs.Order.{entity_eq};
-ghost use Rattle.eco_places.specs.Records.{stepped, Tries};
+ghost use Rattle.eco_archetypes.specs.Records.{stepped, Tries};
 
 use crate::store::Store;
 use eco_ids::{Entity, Id};

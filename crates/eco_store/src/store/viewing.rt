@@ -3,8 +3,7 @@ ghost use Rattle.std.specs.Prelude.{◌≡◌};
 ghost use Rattle.eco_store.specs.Lent.{AreTablesOf};
 
 use crate::store::Store;
-use eco_archetypes::Archetypes;
-use eco_places::Places;
+use eco_archetypes::{Archetypes, Places};
 
 impl Store {
     /// The entities and the tables, to read and to search.

@@ -126,6 +126,15 @@ pub(super) fn shrink<const N: usize>(rows: &mut Vec<[i64; N]>, room: usize)
     rows.shrink_to(wanted);
 }
 
+// All fields go; the memory stays.
+pub(super) fn empty<const N: usize>(rows: &mut Vec<[i64; N]>)
+    ensures items { rows.new.items ≡ [] }
+    ensures room { vec_capacity rows.new - vec_len rows.new
+        ≡ vec_capacity rows.old - vec_len rows.old + length (map padded rows.old.items) }
+{
+    rows.clear();
+}
+
 // Zeros behind the own fields, in reserved room.
 pub(super) fn push_zeros<const N: usize>(rows: &mut Vec<[i64; N]>)
     requires few { N ≤ FIELD_COUNT }

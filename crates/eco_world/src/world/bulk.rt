@@ -5,11 +5,11 @@ ghost use Rattle.eco_ids.specs.Order.{entity_cmp, has_item, id_eq};
 ghost use Rattle.eco_ids.specs.Outcome.{Meets};
 ghost use Rattle.eco_ids.specs.Step.{RemovesAll, is_held, may_remove_all};
 ghost use Rattle.eco_ids.specs.World.{entities};
-ghost use Rattle.eco_cleanup.specs.Plans.{TakesOutOfAll};
+ghost use Rattle.eco_traits.specs.Plans.{TakesOutOfAll};
 
 use crate::world::World;
+use eco_archetypes::TypeChange;
 use eco_ids::{Entity, Id, Refusal};
-use eco_places::TypeChange;
 use eco_query::exactly;
 use std::alloc::AllocError;
 
@@ -35,7 +35,7 @@ impl World {
             return Ok(self.remove_all_mirrored(id, target)?);
         }
         let changes = self.changes_without(id)?;
-        Ok(eco_cleanup::carry_out(&mut self.store, &[], &changes)?)
+        Ok(eco_traits::carry_out(&mut self.store, &[], &changes)?)
     }
 
     // Whether some living entity has the id.

@@ -3,7 +3,7 @@ ghost use Rattle.std.specs.Prelude.{◌≡◌, All, IfErr, IfOk, None, Some, map
 ghost use Rattle.eco_ids.specs.declared.refusal.Refusal.TheVariants.{NoSuchQuery};
 ghost use Rattle.eco_ids.specs.Answer.{answer};
 ghost use Rattle.eco_ids.specs.Outcome.{Meets};
-ghost use Rattle.eco_answers.specs.Answers.{asked};
+ghost use Rattle.eco_store.specs.Answers.{asked};
 ghost use Rattle.eco_world.specs.Cached.{AddsQuery, ListsFor, OfQuery, RefusesQuery, all_slots_hold};
 ghost use Rattle.eco_world.specs.Layouts.{LendsValues, listed};
 ghost use Rattle.eco_world.specs.Queries.{is_passed, may_query, result_of};
@@ -14,9 +14,9 @@ use crate::row::Row;
 use crate::table_rows::TableRows;
 use crate::world::World;
 use crate::world::queries::rows_of;
-use eco_answers::{Asking, Results, results_of};
 use eco_ids::Refusal;
 use eco_query::Query;
+use eco_store::{Asking, Results, results_of};
 
 impl World {
     /// Adds a query that is to be asked again and again (Flecs manual, Queries, cached queries): the world keeps the tables

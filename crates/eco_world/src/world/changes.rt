@@ -17,7 +17,7 @@ ghost use Rattle.eco_ids.specs.Step.{may_rename, Sets, may_set, changed, is_rese
 ghost use Rattle.eco_ids.specs.World.{has, names_living, is_alive, record_of};
 ghost use Rattle.eco_world.specs.Actor.{IsUnfit, MaySet};
 ghost use Rattle.eco_world.specs.Losses.{IsAlone, takes_id};
-ghost use Rattle.eco_places.specs.Records.{record_ids, with_exchanged, with_toggled, with_type};
+ghost use Rattle.eco_archetypes.specs.Records.{record_ids, with_exchanged, with_toggled, with_type};
 
 use crate::world::World;
 use eco_ids::entity::{ON_DELETE, PANIC};

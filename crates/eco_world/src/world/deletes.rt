@@ -5,7 +5,7 @@ ghost use Rattle.eco_ids.specs.Delete.{DeletesOne, may_delete, DeletesWith, may_
 ghost use Rattle.eco_ids.specs.Outcome.{Meets};
 ghost use Rattle.eco_ids.specs.World.{living};
 ghost use Rattle.eco_index.specs.TypeTests.{type_names};
-ghost use Rattle.eco_places.specs.Records.{record_ids};
+ghost use Rattle.eco_archetypes.specs.Records.{record_ids};
 
 use crate::world::World;
 use eco_ids::{Entity, Id, Refusal};
@@ -26,7 +26,7 @@ impl World {
         eco_ids::laws::steps_keep_lawful();
         self.check_actor(entity)?;
         if self.is_named(entity) {
-            return eco_cleanup::delete(self.alloc, &mut self.store, &[entity]);
+            return eco_traits::delete(self.alloc, &mut self.store, &[entity]);
         }
         self.store.take_out(entity);
         Ok(())
@@ -43,7 +43,7 @@ impl World {
         if self.is_builtins(id) {
             return Err(Refusal::Reserved);
         }
-        eco_cleanup::delete_with(self.alloc, &mut self.store, exactly(id))
+        eco_traits::delete_with(self.alloc, &mut self.store, exactly(id))
     }
 
     // Whether some living entity has an id that names this one: where none has, its death touches no other.

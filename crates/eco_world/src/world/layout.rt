@@ -11,10 +11,9 @@ use crate::columns::Columns;
 use crate::table_rows::TableRows;
 use crate::type_order::is_below;
 use crate::world::World;
-use eco_answers::Asking;
 use eco_ids::{Id, Pattern, TableSlot};
 use eco_query::{Query, exactly};
-use eco_store::{Tables, TypeTest};
+use eco_store::{Asking, Tables, TypeTest};
 use std::alloc::AllocError;
 
 impl World {

@@ -11,7 +11,8 @@ ghost use Rattle.eco_world.specs.Setting.{IsSettable};
 
 use crate::world::World;
 use eco_ids::{Entity, Id, Refusal, Value};
-use eco_stages::{MergeTarget, Outcomes, Report, RunSet, Stage, apply_stages, room_for};
+use eco_merges::{MergeTarget, apply_stages, room_for};
+use eco_stages::{Outcomes, Report, RunSet, Stage};
 
 // So many sets at most are done before rows are looked for again, where none or one stood in such.
 pub(crate) const APART: usize = 16;
@@ -107,7 +108,7 @@ impl World {
             outcomes.old outcomes.new self.new }
         ensures known { IfSome known.new (IsSettable self.new id) }
     {
-        eco_stages::laws::commands_are_done_in_turn();
+        eco_merges::laws::commands_are_done_in_turn();
         let count = self.set_rows(*known, id, sets, outcomes);
         if count > 1 {
             guess.apart = 1;
@@ -134,7 +135,7 @@ impl World {
         ensures done { AreDone self.old (map (set_of_run id) sets.now) outcomes.old outcomes.new self.new }
         ensures known { IfSome known.new (IsSettable self.new id) }
     {
-        eco_stages::laws::commands_are_done_in_turn();
+        eco_merges::laws::commands_are_done_in_turn();
         for set in sets {
             self.set_in_run(known, near, id, set, outcomes);
         }
@@ -156,7 +157,7 @@ impl World {
         ensures done { AreDone self.old (set_of_run id set.now ∷ []) outcomes.old outcomes.new self.new }
         ensures known { IfSome known.new (IsSettable self.new id) }
     {
-        eco_stages::laws::commands_are_done_in_turn();
+        eco_merges::laws::commands_are_done_in_turn();
         if self.rewrite(*known, set.0, id, Value::of(set.1), near) {
             outcomes.push(Ok(()));
             return;
@@ -182,7 +183,7 @@ impl World {
         requires room { length outcomes.old.outcomes + length sets.now ≤ outcomes.old.room }
         ensures { AreDone self.old (map (set_of_run id) sets.now) outcomes.old outcomes.new self.new }
     {
-        eco_stages::laws::commands_are_done_in_turn();
+        eco_merges::laws::commands_are_done_in_turn();
         if let [set] = sets {
             outcomes.push(self.set(set.0, id, Value::of(set.1)));
             return;
@@ -197,7 +198,7 @@ impl World {
         requires room { length outcomes.old.outcomes + length sets.now ≤ outcomes.old.room }
         ensures { AreDone self.old (map (set_of_run id) sets.now) outcomes.old outcomes.new self.new }
     {
-        eco_stages::laws::commands_are_done_in_turn();
+        eco_merges::laws::commands_are_done_in_turn();
         let mut known = self.settable(id).ok();
         let mut guess = Guess { near: 0, apart: 1 };
         let mut done = 0;

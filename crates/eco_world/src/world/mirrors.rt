@@ -10,7 +10,7 @@ ghost use Rattle.eco_ids.specs.Order.{entity_eq};
 ghost use Rattle.eco_ids.specs.Outcome.{Meets};
 ghost use Rattle.eco_ids.specs.Step.{Adds, may_add, changed, has_ids, is_held, is_reserved, with_mirror};
 ghost use Rattle.eco_ids.specs.World.{has, is_alive, is_symmetric, names_living};
-ghost use Rattle.eco_places.specs.Records.{with_toggled, with_type};
+ghost use Rattle.eco_archetypes.specs.Records.{with_toggled, with_type};
 ghost use Rattle.eco_traits.specs.Target.{TakesOwn, type_meant};
 ghost use Rattle.eco_world.specs.declared.loss.Loss.TheVariants.{All, Everywhere};
 ghost use Rattle.eco_world.specs.Losses as losses;

@@ -5,14 +5,14 @@ ghost use Rattle.eco_ids.specs.Answer.{answer};
 ghost use Rattle.eco_ids.specs.Names.{lookup};
 ghost use Rattle.eco_scan.specs.Grammar.{SpellsQuery};
 ghost use Rattle.eco_grammar.specs.Readings.{ReadsInMemory, query_of};
-ghost use Rattle.eco_answers.specs.Answers.{asked};
+ghost use Rattle.eco_store.specs.Answers.{asked};
 ghost use Rattle.eco_world.specs.Queries.{may_query, result_of};
 
 use crate::row::Row;
 use crate::world::World;
-use eco_answers::{Results, results_of};
 use eco_ids::Refusal;
 use eco_query::Query;
+use eco_store::{Results, results_of};
 use std::alloc::{AllocError, Global};
 
 // Each result once more, with entries of its own.

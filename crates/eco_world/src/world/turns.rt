@@ -9,7 +9,8 @@ ghost use Rattle.eco_world.specs.Setting.{AreSettable, StopsAt};
 use crate::world::World;
 use crate::world::merging::{APART, sets_from};
 use eco_ids::{Id, Value};
-use eco_stages::laws::{commands_are_done_in_turn, sets_come_in_turn};
+use eco_merges::laws::commands_are_done_in_turn;
+use eco_stages::laws::sets_come_in_turn;
 use eco_stages::{MOST_IN_TURN, Outcomes, RunSet};
 
 // Whose turn is next, of so many.

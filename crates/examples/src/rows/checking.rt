@@ -1,7 +1,7 @@
 //! What the checker says of a script.
 use crate::rows::outcome::write_end;
 use eco_checker::check_script;
-use eco_devices::Counted;
+use eco_steps::Counted;
 use std::alloc::Global;
 use std::io::{self, Write};
 

@@ -1,11 +1,11 @@
 //! Where a ship is.
 ghost use Rattle.std.specs.Prelude.{◌≡◌, refl};
-ghost use Rattle.eco_typed.specs.Fields.{two, two_is};
+ghost use Rattle.eco_frame.specs.Fields.{two, two_is};
 ghost use Rattle.examples.specs.Ships.{position_of, sailed};
 
 use super::velocity::Velocity;
+use eco_frame::Component;
 use eco_ids::Value;
-use eco_typed::Component;
 
 /// Where a ship is, in miles.
 #[derive(Clone, Copy)]

@@ -1,16 +1,15 @@
 //! A body in Rust that reads its rows as Rust types.
 ghost use Rattle.std.specs.Prelude.{◌≡◌, ◌∷◌, [], false, refl};
 ghost use Rattle.eco_query.specs.Queries.{exactly};
-ghost use Rattle.eco_typed.specs.Typing.{value_found_at};
+ghost use Rattle.eco_frame.specs.Typing.{value_found_at};
 ghost use Rattle.examples.specs.Ships.{recorded, recorded_is_declared};
 
 use super::position::Position;
 use super::ship_components::ShipComponents;
 use super::velocity::Velocity;
-use eco_frame::{BodyRow, Draws, Phase, SystemBody, Systems, record_command};
+use eco_frame::{BodyRow, Draws, Phase, SystemBody, Systems, TypedId, record_command};
 use eco_ids::{Pattern, Refusal};
 use eco_query::exactly;
-use eco_typed::TypedId;
 use eco_world::{Stage, World};
 use std::alloc::Global;
 

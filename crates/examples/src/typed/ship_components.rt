@@ -3,8 +3,8 @@ use super::position::Position;
 use super::velocity::Velocity;
 use crate::calls::name_of;
 use anyhow::Result;
+use eco_frame::TypedId;
 use eco_ids::{Entity, Refusal};
-use eco_typed::TypedId;
 use eco_world::{TableRows, World};
 use std::io;
 

@@ -1,10 +1,10 @@
 //! How a ship sails.
 ghost use Rattle.std.specs.Prelude.{refl};
-ghost use Rattle.eco_typed.specs.Fields.{two, two_is};
+ghost use Rattle.eco_frame.specs.Fields.{two, two_is};
 ghost use Rattle.examples.specs.Ships.{velocity_of};
 
+use eco_frame::Component;
 use eco_ids::Value;
-use eco_typed::Component;
 
 /// How far a ship sails, in miles an hour.
 #[derive(Clone, Copy)]

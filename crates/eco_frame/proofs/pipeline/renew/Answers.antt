@@ -1,5 +1,5 @@
 use Rattle.eco_frame.proofs.Common.{map, IfOk-weaker, ArePlacedBatches, System, SystemModel, ArePlaced, model_of}
-use Rattle.eco_batches.specs.Plans.{batches_in}
+use Rattle.eco_frame.specs.Plans.{batches_in}
 use Rattle.eco_frame.proofs.Placed.{placed_of}
 use Rattle.eco_frame.proofs.pipeline.renew.Goals as goal
 

@@ -10,12 +10,12 @@ returns-clause-batches g c =
     let w = g.H.Holdings.world c.args.holdings.now in
     let R : System g.row.B.Denot → Declared → Type 0 = λ s d. Declares (f s) d in
     let declared = subst (λ ss. AllZip R ss c.in_ok-declared.declared.items) c.as_slice-2.ensures c.in_ok-declared.ensures in
-    IfOk-weaker c.sync_points.result
+    IfOk-weaker c.sync_points_of.result
     (λ batches. ArePlacedBatches w c.deref.result.now (map (λ v. v.items) batches.items))
     (λ batches. ArePlaced w (map f c.args.systems.now) (map (λ v. v.items) batches.items))
     (λ batches h. placed_of c.systems_are_ordered.ensures.order f w c.args.systems.now c.in_ok-declared.declared.items (map (λ v. v.items) batches.items)
     declared (subst (λ ds. ArePlacedBatches w ds (map (λ v. v.items) batches.items)) c.deref.ensures.value h))
-    c.sync_points.ensures
+    c.sync_points_of.ensures
 
 pub returns-clause-one_by_one : goal.returns-clause-one_by_one
 returns-clause-one_by_one g c draws outcomes new lawful =

@@ -1,5 +1,5 @@
 use Rattle.eco_script.proofs.Common.{Ok, Err, refl, err_from_is_err_and}
-use Rattle.eco_formats.specs.Changes.{named_command}
+use Rattle.eco_script.specs.Changes.{named_command}
 use Rattle.eco_script.proofs.making.make_change.Goals as goal
 
 pub returns-in_err-named : goal.returns-in_err-named

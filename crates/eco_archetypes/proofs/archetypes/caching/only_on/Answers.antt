@@ -1,8 +1,8 @@
 use Rattle.eco_archetypes.proofs.Common.{◌≡◌, ℕ, ◌<◌, Bool, true, true≢false, List, [], ◌∷◌, length, map, list_any, ap, sym, ◌∙◌, arith, subst, option_map}
 use Rattle.eco_archetypes.proofs.Common.{TableState, asks, choices_on, type_at}
 use Rattle.eco_ids.specs.Answer.{choices}
-use Rattle.eco_entries.specs.Flat.{ChoicesState}
-use Rattle.eco_caches.proofs.Onlies.{all_kept, kept_alone, only_more}
+use Rattle.eco_index.specs.Flat.{ChoicesState}
+use Rattle.eco_index.proofs.Onlies.{all_kept, kept_alone, only_more}
 use Rattle.eco_archetypes.proofs.archetypes.caching.only_on.Goals as goal
 
 -- a query has a slot, where one of them is positive

@@ -7,7 +7,7 @@ use Rattle.eco_store.proofs.Needing.{fixed_covers, placed_covers}
 use Rattle.eco_store.proofs.RowCounts.{own_fits, end_fits}
 use Rattle.eco_store.proofs.Rowless.{rowless_moved}
 use Rattle.eco_store.proofs.StoreChanges as changes
-use Rattle.eco_places.proofs.Seated.{row_within}
+use Rattle.eco_archetypes.proofs.Seated.{row_within}
 use Rattle.eco_store.proofs.layout.Layout.carry.Goals as goal
 
 pub move_row-filler-requires-clause-row : goal.move_row-filler-requires-clause-row

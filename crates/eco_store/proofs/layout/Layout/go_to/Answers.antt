@@ -5,7 +5,7 @@ use Rattle.eco_store.proofs.Coming.{changed_dead}
 use Rattle.eco_store.proofs.Laid.{carries_none, laid_alike}
 use Rattle.eco_store.proofs.Rowless.{rowless_beside}
 use Rattle.eco_store.proofs.Stepping.{own_again, standing_type}
-use Rattle.eco_places.proofs.Seated.{alive_same}
+use Rattle.eco_archetypes.proofs.Seated.{alive_same}
 use Rattle.eco_store.proofs.layout.Layout.go_to.Goals as goal
 
 -- who does not live stays so

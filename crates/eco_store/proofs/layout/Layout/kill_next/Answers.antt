@@ -2,7 +2,7 @@ use Rattle.eco_store.proofs.Common.{◌≡◌, length, take, get_or, is_some, Is
 use Rattle.eco_store.proofs.Common.{slot_of, there_by_row, after_deaths, rows_in, read}
 use Rattle.eco_store.proofs.Clearing.{begun_rows, no_entity, unplaced_dead}
 use Rattle.eco_store.proofs.Dying.{first_dies, first_passes}
-use Rattle.eco_places.proofs.Seated.{placed_record, row_within, alive_same}
+use Rattle.eco_archetypes.proofs.Seated.{placed_record, row_within, alive_same}
 use Rattle.eco_store.proofs.Thinning.{thins_same}
 use Rattle.eco_store.proofs.layout.Layout.kill_next.Goals as goal
 

@@ -1,6 +1,6 @@
 use Rattle.eco_store.proofs.Common.{subst, AllHaveIds, there_by_row}
 use Rattle.eco_store.proofs.Stepping.{standing_type}
-use Rattle.eco_places.proofs.Seated.{row_within}
+use Rattle.eco_archetypes.proofs.Seated.{row_within}
 use Rattle.eco_store.proofs.layout.Layout.place_of.Goals as goal
 
 pub returns : goal.returns

@@ -1,6 +1,6 @@
 use Rattle.eco_store.proofs.Common.{subst, AllHaveIds, there_by_row}
 use Rattle.eco_store.proofs.Coupled.{may_turn}
-use Rattle.eco_places.proofs.Seated.{row_within}
+use Rattle.eco_archetypes.proofs.Seated.{row_within}
 use Rattle.eco_store.proofs.layout.Layout.turn.Goals as goal
 
 pub step_alone-requires : goal.step_alone-requires

@@ -1,6 +1,6 @@
 use Rattle.eco_store.proofs.Common.{sym, ◌∙◌, list_any, pattern_matches, slot_of, on_err}
-use Rattle.eco_places.proofs.Holders.{found_matches, some_listed, standing_apart, standing_whose, whose_ascend}
-use Rattle.eco_places.proofs.Sorting.{both_ok, sorted_is}
+use Rattle.eco_archetypes.proofs.Holders.{found_matches, some_listed, standing_apart, standing_whose, whose_ascend}
+use Rattle.eco_archetypes.proofs.Sorting.{both_ok, sorted_is}
 use Rattle.eco_store.proofs.store.Store.entities_with.Goals as goal
 
 pub returns-clause-all : goal.returns-clause-all

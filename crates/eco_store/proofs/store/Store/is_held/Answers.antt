@@ -1,6 +1,6 @@
 use Rattle.eco_store.proofs.Common.{list_any, pattern_matches}
-use Rattle.eco_places.proofs.Holders.{held_is}
-use Rattle.eco_places.proofs.Shows.{shows}
+use Rattle.eco_archetypes.proofs.Holders.{held_is}
+use Rattle.eco_archetypes.proofs.Shows.{shows}
 use Rattle.eco_store.proofs.store.Store.is_held.Goals as goal
 
 pub returns : goal.returns

@@ -1,8 +1,8 @@
 use Rattle.eco_store.proofs.Common.{false, sym, ◌∙◌, true≢false}
 use Rattle.eco_index.specs.TypeTests.{type_names}
 use Rattle.eco_archetypes.proofs.Named.{none_names}
-use Rattle.eco_places.proofs.Holders.{held_is}
-use Rattle.eco_places.proofs.Shows.{shows}
+use Rattle.eco_archetypes.proofs.Holders.{held_is}
+use Rattle.eco_archetypes.proofs.Shows.{shows}
 use Rattle.eco_store.proofs.store.Store.is_named.Goals as goal
 
 pub returns-then-is_named : goal.returns-then-is_named

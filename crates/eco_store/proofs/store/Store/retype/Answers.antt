@@ -2,7 +2,7 @@ use Rattle.eco_store.proofs.Common.{◌≡◌, false, true≢false, List, Option
 use Rattle.eco_store.proofs.Common.{err_from_is_err_and, Id, same_ids-Decides, TableState, slot_of, no_table, same_ids, type_at, seen}
 use Rattle.eco_store.proofs.Laid.{sought_laid, sought_seen, sought_settled, still_settled, tried_none}
 use Rattle.eco_store.proofs.Stepping.{own_again}
-use Rattle.eco_places.proofs.Seated.{one_some, some_from_copied}
+use Rattle.eco_archetypes.proofs.Seated.{one_some, some_from_copied}
 use Rattle.eco_store.proofs.StoreChanges.{same_read}
 use Rattle.eco_store.proofs.store.Store.retype.Goals as goal
 

@@ -1,6 +1,6 @@
 use Rattle.eco_store.proofs.Common.{sym, subst, ap, unwrap_or, no_table, IsSome, ◌∙◌, slot_of}
 use Rattle.eco_store.proofs.Lent.{kept_there, lent_tables}
-use Rattle.eco_places.proofs.Shows.{own_there, stands_there}
+use Rattle.eco_archetypes.proofs.Shows.{own_there, stands_there}
 use Rattle.eco_store.proofs.store.Store.stand.Goals as goal
 
 pub table-requires : goal.table-requires

@@ -1,7 +1,7 @@
 use Rattle.eco_store.proofs.Common.{read, err_says}
-use Rattle.eco_places.proofs.Holders.{some_held}
+use Rattle.eco_archetypes.proofs.Holders.{some_held}
 use Rattle.eco_store.proofs.Lent.{lent_tables}
-use Rattle.eco_places.proofs.Shows.{shows}
+use Rattle.eco_archetypes.proofs.Shows.{shows}
 use Rattle.eco_store.proofs.store.Store.tables_by.Goals as goal
 
 pub returns-clause-lent : goal.returns-clause-lent

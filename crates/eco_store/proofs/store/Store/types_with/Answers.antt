@@ -1,5 +1,5 @@
 use Rattle.eco_store.proofs.Common.{◌≢◌, ◌↔◌, sym, subst, pattern_matches, list_any, AllPairs, Contains, IfOk-weaker, IsTypeBy, on_err}
-use Rattle.eco_places.proofs.Holders.{some_listed}
+use Rattle.eco_archetypes.proofs.Holders.{some_listed}
 use Rattle.eco_store.proofs.FoundTypes.{tables_there, types_apart, types_listed}
 use Rattle.eco_store.proofs.store.Store.types_with.Goals as goal
 

@@ -1,7 +1,7 @@
 use Rattle.std.proofs.Common.{[], ◌∷◌, ◌++◌, refl, sym, ap, ◌∙◌}
 use Rattle.std.proofs.lemmas.List.{append-nil}
 use Rattle.eco_ids.specs.Run.{Set}
-use Rattle.eco_typed.specs.Fields.{two}
+use Rattle.eco_frame.specs.Fields.{two}
 use Rattle.examples.proofs.Sailing.{if_ok, recorded_here}
 use Rattle.examples.proofs.typed.sail.SailSystemBody.record.Goals as goal
 

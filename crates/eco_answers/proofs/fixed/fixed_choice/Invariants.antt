@@ -1,5 +1,0 @@
-use Rattle.eco_answers.proofs.Common.{take, asks, AreFixed}
-use Rattle.eco_answers.proofs.fixed.fixed_choice.Given as goal
-
-abbrev pub invariant-loop-slot : goal.invariant-loop-slot
-invariant-loop-slot l = AreFixed (asks (take l.slot-index l.slots)) l.choice.items

@@ -1,8 +1,0 @@
-use Rattle.eco_answers.proofs.Common.{rules, answers_always, Standing}
-use Rattle.eco_answers.proofs.standing.sort_all.Goals as goal
-
-pub returns : goal.returns
-returns c = record {
-  all = search rules;
-  sorted = c.sort_unstable_by_key.ensures.sorted (λ (s : Standing). s.entity) (answers_always _ _ _ (λ f a r q k. search rules));
-}

@@ -1,6 +1,0 @@
-use Rattle.eco_answers.proofs.Common.{rules}
-use Rattle.eco_answers.proofs.Ranking.{in_order_ranked}
-use Rattle.eco_answers.proofs.standing.together.Goals as goal
-
-pub returns-in-Some : goal.returns-in-Some
-returns-in-Some c = rw c.alone.ensures (in_order_ranked c.args.entities.now c.in-Some.list.items (search rules) (search rules))

@@ -1,8 +1,0 @@
-use Rattle.eco_answers.proofs.Common.{◌≡◌, length, IsNumbering}
-use Rattle.eco_answers.proofs.walking.numbers_of.Given as goal
-
-abbrev pub invariant-loop-place : goal.invariant-loop-place
-invariant-loop-place l = record {
-  numbering : IsNumbering l.slots l.place l.numbers.items;
-  long : length l.numbers.items ≡ l.bound;
-}

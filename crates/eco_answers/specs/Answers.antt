@@ -1,2 +1,0 @@
--- What the slots of a query ask, in the words of the crate that makes the entries.
-pub use Rattle.eco_entries.specs.Answers.{asked, asks}

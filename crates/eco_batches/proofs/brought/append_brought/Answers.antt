@@ -1,7 +1,0 @@
-use Rattle.eco_batches.proofs.Common.{arith, common_steps, append-nil}
-use Rattle.eco_batches.proofs.Brings.{brought_more}
-use Rattle.eco_batches.proofs.brought.append_brought.Goals.{in-Some+in_ok-push, in_default}
-use Rattle.eco_batches.proofs.brought.append_brought.Goals as goal
-
-pub loop-id-preserved : goal.loop-id-preserved
-loop-id-preserved c = grind (arith, common_steps, in-Some+in_ok-push, brought_more, in_default, append-nil)

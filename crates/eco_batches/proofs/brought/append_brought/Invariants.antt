@@ -1,5 +1,0 @@
-use Rattle.eco_batches.proofs.Common.{◌≡◌, ◌++◌, map, take, brought, pattern_key}
-use Rattle.eco_batches.proofs.brought.append_brought.Given as goal
-
-abbrev pub invariant-loop-id : goal.invariant-loop-id
-invariant-loop-id l = l.found.items ≡ l.initial.found.items ++ map pattern_key (brought l.pattern (take l.id-index l.ids))

@@ -1,5 +1,0 @@
-use Rattle.eco_batches.proofs.Common.{take, AllByRecursion, BringsNothing}
-use Rattle.eco_batches.proofs.brought.bring_nothing.Given as goal
-
-abbrev pub invariant-loop-pattern : goal.invariant-loop-pattern
-invariant-loop-pattern g l = AllByRecursion (BringsNothing (g.H.Holdings.world l.holdings)) (take l.pattern-index l.patterns)

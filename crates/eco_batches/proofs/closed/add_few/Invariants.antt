@@ -1,7 +1,0 @@
-use Rattle.eco_batches.proofs.Common.{◌≡◌, map, take, insert_all, same_pattern}
-use Rattle.eco_systems.specs.Writes as writes
-use Rattle.eco_batches.proofs.closed.add_few.Given as goal
-
-abbrev pub invariant-loop-pattern : goal.invariant-loop-pattern
-invariant-loop-pattern g l = l.closed.items ≡ insert_all same_pattern l.initial.closed.items
-    (map (writes.widened (g.H.Holdings.world l.holdings)) (take l.pattern-index l.patterns))

@@ -1,5 +1,0 @@
-use Rattle.eco_batches.proofs.Common.{take, AllZip, IsKnown}
-use Rattle.eco_batches.proofs.outline.Outlines.are_known.Given as goal
-
-abbrev pub invariant-loop-at : goal.invariant-loop-at
-invariant-loop-at g l = AllZip (IsKnown (g.H.Holdings.world l.holdings)) (take l.at l.systems) (take l.at l.self)

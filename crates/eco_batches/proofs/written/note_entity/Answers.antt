@@ -1,5 +1,0 @@
-use Rattle.eco_batches.proofs.Keyed.{entity_noted}
-use Rattle.eco_batches.proofs.written.note_entity.Goals as goal
-
-pub returns : goal.returns
-returns c = entity_noted c.args.noted.now.keys c.insert.new.self.keys c.args.entity c.in_ok-insert.ensures.keys

@@ -1,5 +1,0 @@
-use Rattle.eco_caches.proofs.Common.{None, refl}
-use Rattle.eco_caches.proofs.cache.Cache.forget.Goals as goal
-
-pub returns-clause-told : goal.returns-clause-told
-returns-clause-told c = c.take_out.ensures.told None refl

@@ -1,2 +1,0 @@
-pub mod Caching
-pub mod Contents

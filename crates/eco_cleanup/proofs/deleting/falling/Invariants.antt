@@ -1,5 +1,0 @@
-use Rattle.eco_cleanup.proofs.Common.{◌≡◌, map, take, Falling}
-use Rattle.eco_cleanup.proofs.deleting.falling.Given as goal
-
-abbrev pub invariant-loop-slot : goal.invariant-loop-slot
-invariant-loop-slot l = l.nodes.items ≡ map Falling (take l.slot-index l.slots)

@@ -1,7 +1,0 @@
-use Rattle.eco_cleanup.proofs.deleting.plan_holders.Goals as goal
-
-pub returns-clause-planned : goal.returns-clause-planned
-returns-clause-planned g c = rw c.places.ensures at c.plan_delete_with.ensures.planned
-
-pub returns-clause-judged : goal.returns-clause-judged
-returns-clause-judged g c = rw c.places.ensures at c.plan_delete_with.ensures.judged

@@ -1,7 +1,0 @@
-use Rattle.eco_cleanup.proofs.Common.{◌≡◌, ◌++◌, flat_map, take, nodes_at, world_of}
-use Rattle.eco_cleanup.proofs.ties.Ties.append_listed.Given as goal
-
-abbrev pub invariant-loop-slot : goal.invariant-loop-slot
-invariant-loop-slot l =
-    l.found.items ≡ l.initial.found.items
-    ++ flat_map (nodes_at (world_of l.self.places.now.entities) l.self.places.now.slots l.member) (take l.slot-index l.slot-items)

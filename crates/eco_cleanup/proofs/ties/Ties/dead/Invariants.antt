@@ -1,5 +1,0 @@
-use Rattle.eco_cleanup.proofs.Common.{◌≡◌, take, taken_among}
-use Rattle.eco_cleanup.proofs.ties.Ties.dead.Given as goal
-
-abbrev pub invariant-loop-node : goal.invariant-loop-node
-invariant-loop-node l = l.dead.items ≡ taken_among l.self.places.now.slots (take l.node-index l.node-items)

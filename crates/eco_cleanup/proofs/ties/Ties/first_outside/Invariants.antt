@@ -1,5 +1,0 @@
-use Rattle.eco_cleanup.proofs.Common.{◌≡◌, take, taken_among, first_outside}
-use Rattle.eco_cleanup.proofs.ties.Ties.first_outside.Given as goal
-
-abbrev pub invariant-loop-entity : goal.invariant-loop-entity
-invariant-loop-entity l = l.first ≡ first_outside (taken_among l.self.places.now.slots l.doomed.nodes.keys) (take l.entity-index l.entities)

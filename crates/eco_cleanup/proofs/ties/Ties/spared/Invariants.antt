@@ -1,5 +1,0 @@
-use Rattle.eco_cleanup.proofs.Common.{◌≡◌, [], take, names_any, taken_among, with_staying}
-use Rattle.eco_cleanup.proofs.ties.Ties.spared.Given as goal
-
-abbrev pub invariant-loop-id : goal.invariant-loop-id
-invariant-loop-id l = l.kept ≡ with_staying (names_any (taken_among l.self.places.now.slots l.doomed.nodes.keys)) (take l.id-index l.ids) []

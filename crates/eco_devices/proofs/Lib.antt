@@ -1,2 +1,0 @@
-pub mod Common
-pub mod Devices

@@ -1,6 +1,0 @@
-use Rattle.eco_devices.proofs.Common.{Keeps}
-use Rattle.eco_devices.proofs.counted.read_again.Given as goal
-
--- nothing was read
-abbrev pub invariant-loop : goal.invariant-loop
-invariant-loop g l = Keeps (g.R.Read.remaining l.initial.reader) (g.R.Read.remaining l.reader)

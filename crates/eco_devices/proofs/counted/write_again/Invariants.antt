@@ -1,6 +1,0 @@
-use Rattle.eco_devices.proofs.Common.{Keeps}
-use Rattle.eco_devices.proofs.counted.write_again.Given as goal
-
--- nothing was written
-abbrev pub invariant-loop : goal.invariant-loop
-invariant-loop g l = Keeps (g.W.Write.contents l.initial.writer) (g.W.Write.contents l.writer)

@@ -1,5 +1,0 @@
-use Rattle.eco_entries.proofs.Chunked.{chunks_even}
-use Rattle.eco_entries.proofs.choices.Choices.is_even.Goals as goal
-
-pub returns : goal.returns
-returns c = rw (← c.self.view_is) (chunks_even c.self.inside.count c.self.inside.width c.self.inside.entries.items c.self.invariant)

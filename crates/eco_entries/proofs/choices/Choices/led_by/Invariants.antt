@@ -1,5 +1,0 @@
-use Rattle.eco_entries.proofs.Common.{◌≡◌, ◌∷◌, take, flat_map}
-use Rattle.eco_entries.proofs.choices.Choices.led_by.Given as goal
-
-abbrev pub invariant-loop-entry : goal.invariant-loop-entry
-invariant-loop-entry l = l.led.items ≡ flat_map (λ e. flat_map (λ x. e ∷ x) l.self.all) (take l.entry-index l.entries)

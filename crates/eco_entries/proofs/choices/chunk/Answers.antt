@@ -1,9 +1,0 @@
-use Rattle.eco_entries.proofs.Common.{Some, take, drop, ap, ◌∙◌, ◌*◌, ◌+◌, ◌-◌, ◌≡◌, arith}
-use Rattle.eco_entries.proofs.Chunked.{chunk_read}
-use Rattle.eco_entries.proofs.choices.chunk.Goals as goal
-
-pub returns : goal.returns
-returns c =
-    let a = c.args in
-    let e : a.width ≡ a.place * a.width + a.width - a.place * a.width = omega arith in
-    chunk_read a.count a.width a.place a.entries.now c.requires.there ∙ ap (λ k. Some (take k (drop (a.place * a.width) a.entries.now))) e

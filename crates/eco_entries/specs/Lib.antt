@@ -1,5 +1,0 @@
-pub mod Answers
-pub mod Fillings
-pub mod First
-pub mod Flat
-pub mod Seen

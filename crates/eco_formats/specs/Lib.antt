@@ -1,6 +1,0 @@
-pub mod Changes
-pub mod Lines
-pub mod Recording
-pub mod References
-pub mod ShownViews
-pub mod Values

@@ -1,6 +1,0 @@
-use Rattle.eco_places.proofs.Shows.{housed}
-use Rattle.eco_places.proofs.places.Places.entities.Goals as goal
-
-pub returns-clause-housed : goal.returns-clause-housed
-returns-clause-housed c =
-    rw (← c.self.view_is) (housed c.self.inside.entities.now c.self.inside.archetypes.now c.self.invariant)

@@ -1,7 +1,0 @@
-use Rattle.eco_places.proofs.Common.{◌∙◌, sym}
-use Rattle.eco_places.proofs.Seated.{alive_same}
-use Rattle.eco_places.proofs.places.Places.is_alive.Goals as goal
-
-pub returns : goal.returns
-returns c =
-    rw (← c.self.view_is) (c.is_alive.ensures ∙ sym (alive_same c.self.inside.entities.now c.self.inside.archetypes.now c.args.entity))

@@ -1,2 +1,0 @@
-pub mod Common
-mod Parts

@@ -1,7 +1,0 @@
-use Rattle.eco_printed.proofs.Common.{◌≡◌, ◌++◌, take, flat_map, string_bytes, id_line}
-use Rattle.eco_printed.proofs.tables.push_ids.Given as goal
-
--- the lines of the ids so far
-abbrev pub invariant-loop-id : goal.invariant-loop-id
-invariant-loop-id l =
-    string_bytes l.text ≡ string_bytes l.fn.text ++ flat_map (id_line l.world) (take l.id-index l.ids)

@@ -1,4 +1,0 @@
-use Rattle.flecsbench.proofs.shared.SharedCase.hundredths.Given as goal
-
-abbrev pub ghosts-share : goal.ghosts-share
-ghosts-share g a = record { book = a.blank.front.seen.book }

@@ -15,7 +15,7 @@ It runs, one after the other,
   tools/rows            each script of examples/ with 1 and 4 workers, and hostile scripts, words and devices
   tools/views           what the viewer shows and draws of each script of examples/
 over the programs that rt ci has built. The last line is `N passed, M failed`, of all together; the status is 0
-where none failed. From nothing it takes as long as rt ci, some 50 minutes; what comes behind takes a minute.
+where none failed. From nothing it takes as long as rt ci, about an hour; what comes behind takes a minute.
 TEXT
 }
 

@@ -1,10 +1,10 @@
 -- What patterns bring, by the ids of their heads, and their closures.
-use Rattle.eco_frame.proofs.BatchesCommon.{◌≡◌, ℕ, zero, suc, ◌<◌, ◌==◌, Bool, true, false, ◌↔◌, ◌⊎◌, inl, inr, List, []}
-use Rattle.eco_frame.proofs.BatchesCommon.{◌∷◌, ◌++◌, map, flat_map, refl, sym, ap, ◌∙◌, subst, ◌+◌, ◌^◌, if◌then◌else◌, append_assoc}
-use Rattle.eco_frame.proofs.BatchesCommon.{get_or, length, take, IsTrue, true≢false, arith, Option, Some, None, option_map, option_to_list, slice_get}
-use Rattle.eco_frame.proofs.BatchesCommon.{AllByRecursion, list_any, map-append, take_more, same_Some, none-some, neither, Entity, Id, Part, Is, Each, Any, Pattern}
-use Rattle.eco_frame.proofs.BatchesCommon.{One, Two, WorldState, Record, has, record_of, id_eq_is, id_eq_itself, entity_eq_is, entity_eq_itself, pattern_head}
-use Rattle.eco_frame.proofs.BatchesCommon.{pattern_with_head, BringsPattern, InClosedPatterns, some_left, some_right, AreClosed, HasKnownTarget, brought, brought_by}
+use Rattle.eco_frame.proofs.BatchesCommon.{◌≡◌, ℕ, zero, suc, ◌<◌, ◌==◌, Bool, true, false, ◌↔◌, ◌⊎◌, inl, inr, List, [], ◌∷◌, ◌++◌, map, flat_map, refl}
+use Rattle.eco_frame.proofs.BatchesCommon.{sym, ap, ◌∙◌, subst, ◌+◌, ◌^◌, if◌then◌else◌, append_assoc, get_or, length, take, IsTrue, true≢false, arith}
+use Rattle.eco_frame.proofs.BatchesCommon.{Option, Some, None, option_map, option_to_list, slice_get, AllByRecursion, list_any, map-append, take_more}
+use Rattle.eco_frame.proofs.BatchesCommon.{same_Some, none-some, neither, Entity, Id, Part, Is, Each, Any, Pattern, One, Two, WorldState, Record, has}
+use Rattle.eco_frame.proofs.BatchesCommon.{record_of, id_eq_is, id_eq_itself, entity_eq_is, entity_eq_itself, pattern_head, pattern_with_head}
+use Rattle.eco_frame.proofs.BatchesCommon.{BringsPattern, InClosedPatterns, some_left, some_right, AreClosed, HasKnownTarget, brought, brought_by}
 use Rattle.eco_frame.proofs.BatchesCommon.{BringsNothing, ids_in, pattern_key, keys_by, known_keys, key_pattern, targets_below, Key}
 use Rattle.std.proofs.lemmas.Bool.{cases_eq}
 use Rattle.std.proofs.lemmas.Grind.{flat_map-append}

@@ -10,7 +10,7 @@ use Rattle.std.proofs.lemmas.List.{drop-map, take-map}
 use Rattle.std.proofs.lemmas.List.Elements.{All-append, All-head, All-tail}
 use Rattle.std.proofs.lemmas.List.Folds.{concat-append}
 use Rattle.std.proofs.lemmas.Option.{none-some, same_Some}
-use Rattle.eco_workers.specs.Counting.{ascends, times}
+use Rattle.eco_tickets.specs.Counting.{ascends, times}
 use Rattle.eco_frame.specs.Chunks.{chunk_commands, chunk_taken}
 use Rattle.eco_frame.proofs.Fresh.{parts_up, times_concat}
 

@@ -1,9 +1,10 @@
 -- Two outlines clash exactly where their systems conflict.
-use Rattle.eco_frame.proofs.BatchesCommon.{◌≡◌, ℕ, zero, suc, ◌==◌, Bool, false, ◌||◌, ◌↔◌, List, [], ◌∷◌, ◌++◌, map, length, refl}
-use Rattle.eco_frame.proofs.BatchesCommon.{sym, ap, ◌∙◌, subst, true≢false, IsTrue, Option, Some, None, slice_get, arith, eqb-true, AllZip, list_any}
-use Rattle.eco_frame.proofs.BatchesCommon.{map-append, same_Some, none-some, some_exact, pattern_overlaps, WorldState, batched, in_order, order_of, SomeOf}
-use Rattle.eco_frame.proofs.BatchesCommon.{IsTraitWriter, writes_trait, OutlineModel, ArePlacedBatches, IsOutline, clash_of, clash_at, closed_in, cut_of, disturbs}
-use Rattle.eco_frame.proofs.BatchesCommon.{kills_in, kills_too, late_at, no_system, reads_in, system_in, system_of, system_at, systems_of, traits_in, Declared}
+use Rattle.eco_frame.proofs.BatchesCommon.{◌≡◌, ℕ, zero, suc, ◌==◌, Bool, false, ◌||◌, ◌↔◌, List, [], ◌∷◌, ◌++◌, map, length, refl, sym, ap, ◌∙◌, subst}
+use Rattle.eco_frame.proofs.BatchesCommon.{true≢false, IsTrue, Option, Some, None, slice_get, arith, eqb-true, AllZip, list_any, map-append, same_Some}
+use Rattle.eco_frame.proofs.BatchesCommon.{none-some, some_exact, pattern_overlaps, WorldState, batched, in_order, order_of, SomeOf, IsTraitWriter}
+use Rattle.eco_frame.proofs.BatchesCommon.{writes_trait, OutlineModel, ArePlacedBatches, IsOutline, clash_of, clash_at, closed_in, cut_of, disturbs}
+use Rattle.eco_frame.proofs.BatchesCommon.{kills_in, kills_too, late_at, no_system, reads_in, system_in, system_of, system_at, systems_of, traits_in}
+use Rattle.eco_frame.proofs.BatchesCommon.{Declared}
 use Rattle.std.proofs.lemmas.Bool.Decides.{Decides-or}
 use Rattle.eco_ids.proofs.Further.{found_at}
 use Rattle.eco_systems.specs.Batches.{Conflict, Disturbs, AreBatches}

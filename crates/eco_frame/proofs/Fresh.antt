@@ -11,7 +11,7 @@ use Rattle.eco_ids.specs.Order.{entity_cmp, has_item, is_ascending}
 use Rattle.eco_ids.proofs.Ascending.{both}
 use Rattle.eco_ids.proofs.IdOrder.{entity_cmp_total, same_entity}
 use Rattle.eco_ids.proofs.Members.{same_members}
-use Rattle.eco_workers.specs.Counting.{total, times, once, all_above, ascends}
+use Rattle.eco_tickets.specs.Counting.{total, times, once, all_above, ascends}
 
 -- numbers, each of which stands once
 

@@ -1,11 +1,10 @@
 -- The loop that joins systems one by one.
-use Rattle.eco_frame.proofs.BatchesCommon.{◌≡◌, ℕ, ◌+◌, ◌<◌, Bool, true, false, cond, ◌&&◌, ◌||◌, List, [], ◌∷◌, ◌++◌, map, length}
-use Rattle.eco_frame.proofs.BatchesCommon.{get_or, take, drop, Option, ◌≤◌, slice_get, refl, sym, ap, ◌∙◌, subst, true≢false, append_assoc, AllZip}
-use Rattle.eco_frame.proofs.BatchesCommon.{IsTrue, None, Some, arith, take_all, traits_in}
-use Rattle.eco_frame.proofs.BatchesCommon.{IsDistinct, list_any, drop_all, drop_more, map-append, map_push, take_more, list_any-append, Pattern, pattern_overlaps}
-use Rattle.eco_frame.proofs.BatchesCommon.{WorldState, has_any, batched, ListsClosed, writes_trait, same_pattern, OutlineModel, IsOutline, clash_at, clash_of}
-use Rattle.eco_frame.proofs.BatchesCommon.{closed_in, disturbs, kills_in, kills_too, late_at, reads_in, overlaps, Declared, or-false, or_assoc}
-use Rattle.eco_frame.proofs.BatchesCommon.{◌↔◌, same_Some, IsKnown, ListsFew, zero, suc, widened}
+use Rattle.eco_frame.proofs.BatchesCommon.{◌≡◌, ℕ, ◌+◌, ◌<◌, Bool, true, false, cond, ◌&&◌, ◌||◌, List, [], ◌∷◌, ◌++◌, map, length, get_or, take, drop}
+use Rattle.eco_frame.proofs.BatchesCommon.{Option, ◌≤◌, slice_get, refl, sym, ap, ◌∙◌, subst, true≢false, append_assoc, AllZip, IsTrue, None, Some, arith}
+use Rattle.eco_frame.proofs.BatchesCommon.{take_all, traits_in, IsDistinct, list_any, drop_all, drop_more, map-append, map_push, take_more}
+use Rattle.eco_frame.proofs.BatchesCommon.{list_any-append, Pattern, pattern_overlaps, WorldState, has_any, batched, ListsClosed, writes_trait}
+use Rattle.eco_frame.proofs.BatchesCommon.{same_pattern, OutlineModel, IsOutline, clash_at, clash_of, closed_in, disturbs, kills_in, kills_too, late_at}
+use Rattle.eco_frame.proofs.BatchesCommon.{reads_in, overlaps, Declared, or-false, or_assoc, ◌↔◌, same_Some, IsKnown, ListsFew, zero, suc, widened}
 use Rattle.eco_frame.proofs.Brings.{closed_alone}
 use Rattle.eco_frame.proofs.Once.{lists_closed, once_is_distinct}
 use Rattle.eco_ids.proofs.Ascending.{both, first, second}

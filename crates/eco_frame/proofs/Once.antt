@@ -1,9 +1,9 @@
 -- Patterns that are listed once.
-use Rattle.eco_frame.proofs.BatchesCommon.{◌≡◌, Bool, true, false, ◌||◌, List, [], ◌∷◌, ◌++◌, map, refl, sym, ap, ◌∙◌, subst, IsTrue}
-use Rattle.eco_frame.proofs.BatchesCommon.{true≢false, if◌then◌else◌, ℕ, ◌+◌, ◌<◌, get_or, length, take, map_push, take_more, AllByRecursion}
-use Rattle.eco_frame.proofs.BatchesCommon.{list_any, list_any-append, insert_all, insert_key, neither, off, Pattern, WorldState, ListsClosed, widened, all_append}
-use Rattle.eco_frame.proofs.BatchesCommon.{AreClosed, unrepeated, key_pattern, same_pattern, Key, or-false, or_assoc, append-nil, append_assoc}
-use Rattle.eco_frame.proofs.BatchesCommon.{drop, map-append}
+use Rattle.eco_frame.proofs.BatchesCommon.{◌≡◌, Bool, true, false, ◌||◌, List, [], ◌∷◌, ◌++◌, map, refl, sym, ap, ◌∙◌, subst, IsTrue, true≢false}
+use Rattle.eco_frame.proofs.BatchesCommon.{if◌then◌else◌, ℕ, ◌+◌, ◌<◌, get_or, length, take, map_push, take_more, AllByRecursion, list_any}
+use Rattle.eco_frame.proofs.BatchesCommon.{list_any-append, insert_all, insert_key, neither, off, Pattern, WorldState, ListsClosed, widened, all_append}
+use Rattle.eco_frame.proofs.BatchesCommon.{AreClosed, unrepeated, key_pattern, same_pattern, Key, or-false, or_assoc, append-nil, append_assoc, drop}
+use Rattle.eco_frame.proofs.BatchesCommon.{map-append}
 use Rattle.std.proofs.lemmas.List.{take-append-drop}
 use Rattle.std.specs.List.{IsDistinct}
 use Rattle.std.proofs.lemmas.Map.Keys.{IsDistinct-cons, IsDistinct-head, IsDistinct-tail}

@@ -1,6 +1,6 @@
 -- Closed writes of all systems in one list.
-use Rattle.eco_frame.proofs.BatchesCommon.{◌≡◌, ℕ, ◌-◌, ◌≤◌, List, [], ◌∷◌, ◌++◌, map, length, take, drop, refl, ap, ◌∙◌, arith}
-use Rattle.eco_frame.proofs.BatchesCommon.{length-append, length-drop, AllByRecursion, drop-append-le, map-append, take-append-le, take_all, Pattern, outline_of}
+use Rattle.eco_frame.proofs.BatchesCommon.{◌≡◌, ℕ, ◌-◌, ◌≤◌, List, [], ◌∷◌, ◌++◌, map, length, take, drop, refl, ap, ◌∙◌, arith, length-append}
+use Rattle.eco_frame.proofs.BatchesCommon.{length-drop, AllByRecursion, drop-append-le, map-append, take-append-le, take_all, Pattern, outline_of}
 use Rattle.eco_frame.proofs.BatchesCommon.{IsWithin, Outline}
 use Rattle.std.specs.Prelude.{slice_range}
 use Rattle.std.proofs.Math.Seq.{drop-append_seam}

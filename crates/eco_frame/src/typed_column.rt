@@ -17,10 +17,12 @@ pub struct TypedColumn<'a, C> {
 
 // The first of these rows, and those behind it as values of the same width.
 macro_rules! first_and_rest {
-    ($rows:expr, $width:ident) => {{
-        let (first, rest) = $rows.split_first()?;
-        Some((Value::of(*first), Values::$width(rest)))
-    }};
+    ($rows:expr, $width:ident) => {
+        match $rows {
+            [first, rest @ ..] => Some((Value::of(*first), Values::$width(rest))),
+            [] => None,
+        }
+    };
 }
 
 // The first of them, and those behind it.

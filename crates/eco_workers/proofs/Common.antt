@@ -1,7 +1,7 @@
 -- The names that most proofs here cite, passed on from one place. Declares nothing.
 pub use Rattle.std.proofs.Common.{Bool, IfErr, IfOk, List, None, Option, Some, [], ap, append_assoc, arith, cond, drop, eqb, false, get_or, inl, inr, length}
-pub use Rattle.std.proofs.Common.{length-append, map, min, refl, replicate, rules, set, subst, suc, sym, take, true, vec_len, zero, ℕ, ⊎_elim, ◌%◌}
-pub use Rattle.std.proofs.Common.{◌++◌, ◌+◌, ◌-◌, ◌<◌, ◌^◌, ◌∙◌, ◌∷◌, ◌≡◌, ◌≢◌, ◌≤◌, ◌⊎◌}
+pub use Rattle.std.proofs.Common.{length-append, map, min, refl, replicate, rules, set, subst, suc, sym, take, true, vec_len, zero, ℕ}
+pub use Rattle.std.proofs.Common.{◌++◌, ◌+◌, ◌-◌, ◌<◌, ◌∙◌, ◌∷◌, ◌≡◌, ◌≢◌, ◌≤◌, ◌⊎◌}
 pub use Rattle.std.proofs.lemmas.Bool.Decides.{nat_tests}
 pub use Rattle.std.proofs.lemmas.List.{append-nil, drop_more, ext_get_or, get_or-map, get_or-replicate, get_or-set_other, get_or-set_same, get_or_default}
 pub use Rattle.std.proofs.lemmas.List.{get_or_past, length-map, length-replicate, length-set, length-take-le, map-append, map-set, map_more, map_push}
@@ -18,10 +18,11 @@ pub use Rattle.eco_ids.specs.Run.{Command}
 pub use Rattle.eco_ids.specs.declared.refusal.Refusal.{Refusal}
 pub use Rattle.eco_ids.specs.declared.refusal.Refusal.TheVariants.{NoMoreIds, OutOfMemory}
 pub use Rattle.eco_stages.specs.Taking.{Broke, IsStopped, Took, by_index, fresh, stopped_by}
+pub use Rattle.eco_tickets.specs.Counting.{all_above, ascends, once, share, times, total}
+pub use Rattle.eco_tickets.specs.declared.ticket.Ticket.{Ticket}
+pub use Rattle.eco_tickets.specs.declared.word.Share.{Share}
 pub use Rattle.eco_workers.specs.Alone.{IsInTurn, IsOutInTurn, all_of}
 pub use Rattle.eco_workers.specs.Batches.{AreStages, IsBatch, IsOut, placed_stages}
-pub use Rattle.eco_workers.specs.Counting.{Counts, IsCounted, ShareFits, Takes, all_above, all_below, ascends, both, less_one, once, one_part, refused, share}
-pub use Rattle.eco_workers.specs.Counting.{spent, times, took, total}
 pub use Rattle.eco_workers.specs.Entries.{Entry, IsEntry, IsFoundShort, IsGathered, IsGood, IsLog, IsShare, IsShared, IsShort, IsStage, entry_of}
 pub use Rattle.eco_workers.specs.Entries.{piece_of_entry, share_of}
 pub use Rattle.eco_workers.specs.Rounds.{Alone, IsNewSeatOf, IsSeatOf, base_of, claimed, done_count, drawn, dry_count, is_done, is_dry, limit_of, seats_of}
@@ -30,8 +31,4 @@ pub use Rattle.eco_workers.specs.declared.collected.Collected.{Collected}
 pub use Rattle.eco_workers.specs.declared.end.End.{End}
 pub use Rattle.eco_workers.specs.declared.end.End.TheVariants.{Done, NoMemory, Refused}
 pub use Rattle.eco_workers.specs.declared.seat.Seat.{Seat}
-pub use Rattle.eco_workers.specs.declared.ticket.Ticket.{Ticket}
-pub use Rattle.eco_workers.specs.declared.word.Share.{Share}
 pub use Rattle.eco_workers.specs.declared.worked.Worked.{Worked}
-pub use lib.ListN.{get_elem?}
-pub use mathlib.Core.Option.{none, some, some-injective, some-ne-none}

@@ -4,7 +4,7 @@ use Rattle.eco_workers.proofs.Common.{◌∙◌, arith, nat_tests, All, flat_map
 use Rattle.eco_workers.proofs.Common.{times, once, all_above, ascends, claimed, drawn, is_done, done_count, Command, Collected, Entry, piece_of_entry, IsLog}
 use Rattle.eco_workers.proofs.Common.{IsGood, IsGathered}
 use Rattle.eco_workers.proofs.Popped.{popped_total}
-use Rattle.eco_workers.proofs.Totals.{total-append}
+use Rattle.eco_tickets.proofs.Totals.{total-append}
 
 pub times_flat : (x : ℕ) (log : List Entry) → times x (flat_map (λ (e : Entry). e.draws) log) ≡ total (λ (e : Entry). times x e.draws) log
 times_flat x [] = refl

@@ -3,11 +3,10 @@ pub mod Drawn
 pub mod Gathered
 pub mod Logs
 pub mod OnlySeat
+pub mod OutRows
 pub mod Placed
 pub mod Popped
 pub mod Shared
-pub mod Steps
 pub mod Stops
-pub mod Totals
 pub mod Turned
 pub mod Turns

@@ -1,6 +1,6 @@
 -- The last of a list is taken.
 use Rattle.eco_workers.proofs.Common.{◌≡◌, ℕ, ◌+◌, List, [], ◌∷◌, ◌++◌, Some, ap, arith, All, All-pop, total}
-use Rattle.eco_workers.proofs.Totals.{total-append}
+use Rattle.eco_tickets.proofs.Totals.{total-append}
 
 module _ {X : Type 0} where
   pub popped_total : (f : X → ℕ) (xs ys : List X) (y : X) → xs ≡ ys ++ y ∷ [] → total f xs ≡ total f ys + f y

@@ -1,7 +1,7 @@
 -- What a batch gives: a stage for each piece, in the order of the pieces.
 use Rattle.std.specs.Prelude.{◌≡◌, ℕ, ◌+◌, ◌<◌, ◌≤◌, true, List, [], ◌∷◌, set, length, get_or, Some}
 use Rattle.std.specs.List.{All, AllZip, concat, slice_get}
-use Rattle.eco_workers.specs.Counting.{total, times, once, ascends}
+use Rattle.eco_tickets.specs.Counting.{total, times, once, ascends}
 use Rattle.eco_ids.specs.Run.{Command}
 use Rattle.eco_workers.specs.declared.collected.Collected.{Collected}
 use Rattle.eco_workers.specs.Entries.{IsStage}

@@ -1,7 +1,7 @@
 -- What was recorded of pieces: the stage of each, and the indices that it drew.
 use Rattle.std.specs.Prelude.{◌≡◌, ℕ, ◌<◌, ◌≤◌, true, List, [], map, length, Some}
 use Rattle.eco_workers.specs.declared.seat.Seat.{Seat}
-use Rattle.eco_workers.specs.Counting.{total, times, ascends}
+use Rattle.eco_tickets.specs.Counting.{total, times, ascends}
 use Rattle.eco_workers.specs.Rounds.{claimed, drawn, dry_count}
 use Rattle.std.specs.List.{All, Contains, slice_get, flat_map}
 use Rattle.eco_ids.specs.Run.{Command}

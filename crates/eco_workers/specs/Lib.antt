@@ -1,6 +1,5 @@
 pub mod Alone
 pub mod Batches
-pub mod Counting
 pub mod Entries
 pub mod Rounds
 pub mod Workers

@@ -4,7 +4,7 @@ use Rattle.std.specs.List.{range_with_len}
 use Rattle.eco_ids.specs.declared.entity.Entity.{Entity}
 use Rattle.eco_ids.specs.declared.refusal.Refusal.{Refusal}
 use Rattle.eco_ids.specs.declared.refusal.Refusal.TheVariants.{NoMoreIds}
-use Rattle.eco_workers.specs.Counting.{total}
+use Rattle.eco_tickets.specs.Counting.{total}
 use Rattle.eco_workers.specs.declared.round.Round.{Round}
 use Rattle.eco_workers.specs.declared.seat.Seat.{Seat}
 

@@ -5,9 +5,9 @@ ghost use Rattle.eco_stages.specs.Taking.{fresh};
 
 use crate::round::Round;
 use crate::seat::Seat;
-use crate::ticket::Ticket;
 use eco_ids::{Entity, Refusal};
 use eco_stages::Draws;
+use eco_tickets::Ticket;
 
 // A seat with its round: where a worker draws.
 pub(crate) struct Drawer<'a> {

@@ -13,9 +13,6 @@ mod order;
 mod piece;
 mod round;
 mod seat;
-mod settle;
-mod ticket;
-mod word;
 mod worked;
 mod worker;
 
@@ -24,4 +21,3 @@ pub use batch::{count_pieces, run_batch};
 pub use piece::Piece;
 pub use round::Round;
 pub use seat::Seat;
-pub use ticket::Ticket;

@@ -4,12 +4,11 @@ ghost use Rattle.std.specs.Prelude.{cond};
 ghost use Rattle.std.specs.Prelude.{min, IfOk, IfErr};
 ghost use Rattle.std.specs.List.{All};
 ghost use Rattle.eco_ids.specs.declared.refusal.Refusal.TheVariants.{OutOfMemory};
-ghost use Rattle.eco_workers.specs.Counting.{total, times, once, ascends};
+ghost use Rattle.eco_tickets.specs.Counting.{total, times, once, ascends};
 
 use crate::seat::Seat;
-use crate::settle::settle;
-use crate::word::{Hand, OnePart, Span, Word};
 use eco_ids::{Entity, Refusal};
+use eco_tickets::{Hand, OnePart, Span, Word, settle};
 use std::alloc::{AllocError, Global};
 
 /// Pieces to claim, from 0, and fresh indices to draw, from a base to below a limit. Threads share it, and each has a seat of
@@ -47,7 +46,7 @@ impl Drop for Round {
 impl Round {
     ghost use Rattle.eco_workers.specs.Rounds.{claimed, drawn, IsSeatOf, IsNewSeatOf, piece_count, base_of, limit_of, seats_of};
     ghost use Rattle.eco_workers.specs.Rounds.{done_count, dry_count, ClaimsPiece, Draws, Alone};
-    ghost use Rattle.eco_workers.specs.Counting.{less_one, share};
+    ghost use Rattle.eco_tickets.specs.Counting.{less_one, share};
 
     /// Opens a round of so many pieces, from 0, and of the indices from `base` to below `limit`, for so many seats, of which each
     /// claimed and drew nothing yet. There are at most 1,048,576 indices, at most 16,777,216 pieces, and 1 to 64 seats. An

@@ -1,8 +1,7 @@
 //! One thread's part in a round.
 ghost use Rattle.std.specs.Prelude.{◌≡◌, false, [], cond};
 
-use crate::ticket::Ticket;
-use crate::word::Hand;
+use eco_tickets::{Hand, Ticket};
 
 /// One thread's part in a round: it remembers whether it was refused a piece, and whether an index. Contracts see also what it
 /// has claimed and drawn, each list in order; nothing of these lists is there at run time.

@@ -5,7 +5,7 @@ use eco_world::{Column, TableRows, Values, World};
 // Whether the ids come behind those of the table before, if there is one.
 fn is_next(before: Option<&TableRows<'_>>, ids: &[Id]) -> bool {
     match before {
-        Some(table) => table.ids < ids,
+        Some(table) => table.ids.cmp(ids).is_lt(),
         None => true,
     }
 }

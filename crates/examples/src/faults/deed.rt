@@ -90,13 +90,24 @@ fn hang(world: &mut World, root: Entity) -> Result<(), Refusal> {
     Ok(())
 }
 
+// An entity with the id, and another with a value and a pair of which the first is the target.
+fn hold_one(
+    world: &mut World,
+    id: Id,
+    relationship: Entity,
+    component: Id,
+    number: i64,
+) -> Result<(), Refusal> {
+    let holder = world.create(None)?;
+    let survivor = world.create(None)?;
+    world.add(holder, id)?;
+    world.set(survivor, component, Value::of([number]))?;
+    world.add(survivor, Id::Two(relationship, holder))
+}
+
 fn hold(world: &mut World, id: Id, relationship: Entity, component: Id) -> Result<(), Refusal> {
     for number in 0..20i64 {
-        let holder = world.create(None)?;
-        let survivor = world.create(None)?;
-        world.add(holder, id)?;
-        world.set(survivor, component, Value::of([number]))?;
-        world.add(survivor, Id::Two(relationship, holder))?;
+        hold_one(world, id, relationship, component, number)?;
     }
     Ok(())
 }

@@ -47,18 +47,30 @@ fn show<J: Naming, R: Wait + Drop>(
     push_world(text, alloc, view.world())
 }
 
+// Writes what a viewer finds who was told, and what the other world tells.
+fn show_beside<J: Naming, R: Wait + Drop>(
+    rt: &R,
+    text: &mut String,
+    merger: &Merger<J, R>,
+    viewer: &mut Viewer<J, R>,
+    other: &mut Scene,
+) -> Result<(), AllocError> {
+    if inform(merger, viewer) {
+        show(rt, other.alloc, text, viewer)?;
+    }
+    other.show()
+}
+
 // Writes what each viewer finds who was told, and as often what the other world tells.
 fn show_both<J: Naming, R: Wait + Drop>(
     rt: &R,
     text: &mut String,
-    (merger, viewers): &mut Shared<J, R>,
+    shared: &mut Shared<J, R>,
     other: &mut Scene,
 ) -> Result<(), AllocError> {
+    let (merger, viewers) = shared;
     for viewer in viewers.iter_mut() {
-        if inform(merger, viewer) {
-            show(rt, other.alloc, text, viewer)?;
-        }
-        other.show()?;
+        show_beside(rt, text, merger, viewer, other)?;
     }
     Ok(())
 }
@@ -181,6 +193,21 @@ fn judge_open<J: Naming, R: Eprint + Threads + Wait + Copy + Sync + Drop>(
     }
 }
 
+// What comes of the call.
+fn judge_call<J: Naming, R: Eprint + Threads + Wait + Copy + Sync + Drop>(
+    rt: R,
+    registry: &mut Registry<J>,
+    call: Call,
+    text: &mut String,
+    world: World,
+    other: &mut Scene,
+) -> Result<(Lack, usize), Refusal> {
+    match call {
+        Call::OpenShared => judge_open(rt, registry, text, world, other),
+        _ => judge_merged(rt, registry, text, world, other),
+    }
+}
+
 // What comes of the call on a copy of the world, by another copy. Copies have no room to spare.
 fn judge_copies<J: Naming, R: Print + Eprint + Threads + Wait + Copy + Sync + Drop>(
     rt: R,
@@ -190,10 +217,7 @@ fn judge_copies<J: Naming, R: Print + Eprint + Threads + Wait + Copy + Sync + Dr
     copy: World,
     other: &mut Scene,
 ) -> Result<bool, Refusal> {
-    let answer = match scenario.call {
-        Call::OpenShared => judge_open(rt, registry, text, copy, other)?,
-        _ => judge_merged(rt, registry, text, copy, other)?,
-    };
+    let answer = judge_call(rt, registry, scenario.call, text, copy, other)?;
     Ok(tell(
         &rt,
         scenario.name,

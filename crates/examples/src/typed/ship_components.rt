@@ -3,7 +3,7 @@ use super::position::Position;
 use super::velocity::Velocity;
 use crate::calls::name_of;
 use anyhow::Result;
-use eco_frame::TypedId;
+use eco_frame::{TypedColumn, TypedId};
 use eco_ids::{Entity, Refusal};
 use eco_world::{TableRows, World};
 use std::io;
@@ -12,6 +12,20 @@ use std::io;
 fn print_course<R: Print>(rt: &R, name: &str, later: Position) -> io::Result<()> {
     let Position { east, north } = later;
     println!(rt; "{name} will be at {east} {north}")
+}
+
+// Rows of an entity, a position and a velocity.
+fn print_rows<R: Print>(
+    rt: &R,
+    world: &World,
+    ships: &[Entity],
+    positions: TypedColumn<'_, Position>,
+    velocities: TypedColumn<'_, Velocity>,
+) -> io::Result<()> {
+    for ((ship, at), by) in ships.iter().zip(positions).zip(velocities) {
+        print_course(rt, name_of(world, *ship), at.sailed(by))?;
+    }
+    Ok(())
 }
 
 /// The components of ships. No call says how many fields they have.
@@ -59,18 +73,15 @@ impl ShipComponents {
         Ok((heron, teal))
     }
 
-    // The ships of a table: the columns side by side are rows of an entity, a position and a velocity.
+    // The ships of a table: its columns stand side by side.
     fn print_table<R: Print>(self, rt: &R, world: &World, table: &TableRows<'_>) -> io::Result<()> {
-        let (Some(positions), Some(velocities)) = (
-            self.position.column(table),
-            self.velocity.column(table),
-        ) else {
+        let Some(positions) = self.position.column(table) else {
             return Ok(());
         };
-        for ((ship, at), by) in table.entities.iter().zip(positions).zip(velocities) {
-            print_course(rt, name_of(world, *ship), at.sailed(by))?;
-        }
-        Ok(())
+        let Some(velocities) = self.velocity.column(table) else {
+            return Ok(());
+        };
+        print_rows(rt, world, table.entities, positions, velocities)
     }
 
     /// Says of all ships where they will be, table by table.

@@ -1,7 +1,7 @@
 //! Tables get room, and rows move between them.
 ghost use Rattle.std.specs.Prelude.{◌≡◌, length, IfOk};
 
-use eco_ids::{Entity, Id, TypeList, Value};
+use eco_ids::{Entity, Id, TableSlot, TypeList, Value};
 use eco_tables::{Table, Tables};
 use std::alloc::{AllocError, Global};
 
@@ -46,6 +46,14 @@ fn filled(alloc: Global) -> Result<usize, AllocError> {
     fill(&mut table)
 }
 
+// The value of a table's first row, if it has one.
+fn first_value(tables: &Tables, slot: TableSlot) -> Option<Value> {
+    match tables.get(slot) {
+        Some(table) if table.row_count() > 0 => table.find_value(0, POSITION),
+        _ => None,
+    }
+}
+
 // Moves a row with a written value to another table of the same type, which gets room for it. It tells the value there.
 fn moved(alloc: Global, tables: &mut Tables) -> Result<Option<Value>, AllocError> {
     let from = tables.insert(positioned(alloc)?, &[2])?;
@@ -59,21 +67,14 @@ fn moved(alloc: Global, tables: &mut Tables) -> Result<Option<Value>, AllocError
     tables.shrink(to, 0);
     tables.reserve_more(to, 1)?;
     tables.move_row(from, 0, to);
-    Ok(
-        tables
-            .get(to)
-            .and_then(|table| table.find_value(0, POSITION)),
-    )
+    Ok(first_value(tables, to))
 }
 
 // The value of a row that was moved, in a copy of its tables.
 fn copied(alloc: Global, tables: &mut Tables) -> Result<Option<Value>, AllocError> {
     moved(alloc, tables)?;
     let copy = tables.try_copy()?;
-    match copy.get(1) {
-        Some(table) if table.row_count() > 0 => Ok(table.find_value(0, POSITION)),
-        _ => Ok(None),
-    }
+    Ok(first_value(&copy, 1))
 }
 
 // Whether a moved row has its value, and so has its copy.

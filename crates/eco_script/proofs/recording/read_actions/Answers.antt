@@ -1,4 +1,5 @@
-use Rattle.eco_script.proofs.FormatsCommon.{Ok, ◌+◌, arith, subst, sym, take, take_all, err_from_is_err_and, action_view, actions_view, ReadsAction, ReadsActions}
+use Rattle.eco_script.proofs.FormatsCommon.{Ok, ◌+◌, arith, subst, sym, take, take_all, err_from_is_err_and, action_view, actions_view, ReadsAction}
+use Rattle.eco_script.proofs.FormatsCommon.{ReadsActions}
 use Rattle.eco_script.proofs.Recorded.{one_more, one_refused, some_within}
 use Rattle.eco_script.proofs.recording.read_actions.Goals as goal
 

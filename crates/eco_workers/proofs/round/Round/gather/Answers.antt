@@ -1,8 +1,8 @@
 use Rattle.eco_workers.proofs.Common.{◌≡◌, ◌+◌, length, length-append, [], ◌∷◌, ap, ◌∙◌, arith, cond, eqb, Share, times, claimed, drawn}
 use Rattle.eco_workers.proofs.Common.{is_done, is_dry, IsSeatOf}
-use Rattle.eco_workers.proofs.Totals.{total-append}
+use Rattle.eco_tickets.proofs.Totals.{total-append}
 use Rattle.eco_workers.proofs.Popped.{popped_total, popped_all}
-use Rattle.eco_workers.proofs.Steps.{joins}
+use Rattle.eco_tickets.proofs.Steps.{joins}
 use Rattle.eco_workers.proofs.round.Round.gather.Goals as goal
 
 pub loop-seat-init : goal.loop-seat-init

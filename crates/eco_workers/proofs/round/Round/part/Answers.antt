@@ -1,5 +1,5 @@
 use Rattle.eco_workers.proofs.Common.{arith}
-use Rattle.eco_workers.proofs.Steps.{splits}
+use Rattle.eco_tickets.proofs.Steps.{splits}
 use Rattle.eco_workers.proofs.round.Round.part.Goals as goal
 
 pub split_seat-one-requires : goal.split_seat-one-requires

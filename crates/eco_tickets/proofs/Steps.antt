@@ -1,14 +1,14 @@
 -- Each step keeps the count.
-use Rattle.eco_workers.proofs.Common.{◌≡◌, ◌≢◌, ℕ, ◌+◌, ◌-◌, ◌%◌, ◌^◌, ◌<◌, ◌≤◌, min, cond, eqb, List, [], ◌∷◌}
-use Rattle.eco_workers.proofs.Common.{length, set, refl, sym, ap, ◌∙◌, subst, ⊎_elim, arith, some, some-ne-none, some-injective, get_elem?, Share}
-use Rattle.eco_workers.proofs.Common.{total, times, once, took, refused, less_one, one_part, both, spent, ShareFits, IsCounted, Counts, Takes}
+use Rattle.eco_tickets.proofs.Common.{◌≡◌, ◌≢◌, ℕ, ◌+◌, ◌-◌, ◌%◌, ◌^◌, ◌<◌, ◌≤◌, min, cond, eqb, List, [], ◌∷◌}
+use Rattle.eco_tickets.proofs.Common.{length, set, refl, sym, ap, ◌∙◌, subst, ⊎_elim, arith, some, some-ne-none, some-injective, get_elem?, Share}
+use Rattle.eco_tickets.proofs.Common.{total, times, once, took, refused, less_one, one_part, both, spent, ShareFits, IsCounted, Counts, Takes}
 use Rattle.std.specs.Prelude.{slice_index, slice_set}
 use mathlib.Core.Logic.{dite}
 use native.Mathlib.Decide.{dec_lt}
 use Rattle.atomic_table.specs.Table.{State, Me, Step, Allows, Splits, Joins, Act, Final, Seen}
 use Rattle.atomic_table.proofs.Lists.{at_set, at_snoc}
-use Rattle.eco_workers.specs.declared.word.Span.{Span}
-use Rattle.eco_workers.proofs.Totals.{all_in_one, total_set, total-append, total_le, once_more, all_below_more, all_below_push, all_below-append}
+use Rattle.eco_tickets.specs.declared.word.Span.{Span}
+use Rattle.eco_tickets.proofs.Totals.{all_in_one, total_set, total-append, total_le, once_more, all_below_more, all_below_push, all_below-append}
 
 -- what holds of a new view of the seat, and of the others as they were, holds of all
 each_set : (k : Span) (word : ℕ) (views : List Share) (by : ℕ) (w : Share) → ShareFits k word w

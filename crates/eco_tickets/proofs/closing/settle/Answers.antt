@@ -1,6 +1,6 @@
 use Rattle.std.specs.Slots.{slots_items}
-use Rattle.eco_workers.proofs.Steps.{ends}
-use Rattle.eco_workers.proofs.settle.settle.Goals as goal
+use Rattle.eco_tickets.proofs.Steps.{ends}
+use Rattle.eco_tickets.proofs.closing.settle.Goals as goal
 
 pub returns : goal.returns
 returns c =

@@ -1,6 +1,6 @@
 -- Sums over lists of seats, and lists of numbers that were given.
-use Rattle.eco_workers.proofs.Common.{◌≡◌, ℕ, zero, suc, ◌+◌, ◌<◌, ◌≤◌, min, cond, true, eqb, List, [], ◌∷◌, ◌++◌, set, refl}
-use Rattle.eco_workers.proofs.Common.{sym, ap, arith, nat_tests, some, some-ne-none, some-injective, get_elem?, total, once, all_below, all_above, ascends}
+use Rattle.eco_tickets.proofs.Common.{◌≡◌, ℕ, zero, suc, ◌+◌, ◌<◌, ◌≤◌, min, cond, true, eqb, List, [], ◌∷◌, ◌++◌, set, refl}
+use Rattle.eco_tickets.proofs.Common.{sym, ap, arith, nat_tests, some, some-ne-none, some-injective, get_elem?, total, once, all_below, all_above, ascends}
 
 module _ {X : Type 0} (f : X → ℕ) where
   pub total_set : (xs : List X) (i : ℕ) (v w : X) → get_elem? xs i ≡ some v → total f (set xs i w) + f v ≡ total f xs + f w

@@ -4,8 +4,8 @@ use mathlib.Core.Option.{some}
 use lib.ListN.{get_elem?}
 use Rattle.atomic_table.specs.Table.{State, Me, Step}
 use Rattle.atomic_table.specs.declared.shared.Seat.{Seat}
-use Rattle.eco_workers.specs.declared.word.Share.{Share}
-use Rattle.eco_workers.specs.declared.word.Span.{Span}
+use Rattle.eco_tickets.specs.declared.word.Share.{Share}
+use Rattle.eco_tickets.specs.declared.word.Span.{Span}
 
 -- f of each, added up
 abbrev pub total : {X : Type 0} → (X → ℕ) → List X → ℕ

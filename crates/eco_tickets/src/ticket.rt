@@ -1,15 +1,16 @@
 //! One seat on one word.
 ghost use Rattle.std.specs.Prelude.{◌≡◌, ◌<◌, true, false, [], cond, MatchOption};
-ghost use Rattle.eco_workers.specs.Counting.{ascends, took, refused};
+ghost use Rattle.eco_tickets.specs.Counting.{ascends, took, refused};
 
 use crate::word::{Hand, Taking, Word};
 
-/// A seat's part in one of a round's two words. The numbers that it was given ascend, and it steps no more once it was refused.
-/// It serves contracts: they say by it that a draw leaves what was claimed as it was.
+/// A seat that has one part of a word. The numbers that it was given ascend, and it steps no more once it was refused.
 #[derive(Drop)]
 pub struct Ticket {
-    pub(crate) hand: Hand,
-    pub(crate) over: bool,
+    /// The seat.
+    pub hand: Hand,
+    /// Whether it was refused.
+    pub over: bool,
     ghost part: { hand.me.0.parts ≡ 1 },
     ghost refusals: { hand.me.0.refusals ≡ cond over 1 0 },
     ghost empty: { hand.me.1 ≡ [] },
@@ -17,8 +18,8 @@ pub struct Ticket {
 }
 
 impl Ticket {
-    // Of a hand that was given nothing yet.
-    pub(crate) fn new(hand: Hand) -> Ticket
+    /// A ticket of a seat that was given nothing yet.
+    pub fn new(hand: Hand) -> Ticket
         requires part { (hand.me.0.parts ≡ 1) × (hand.me.1 ≡ []) }
         requires new { (hand.me.0.refusals ≡ 0) × (hand.me.0.numbers ≡ []) }
         ensures { (result.hand ≡ hand) × (result.over ≡ false) }
@@ -26,7 +27,8 @@ impl Ticket {
         Ticket { hand, over: false }
     }
 
-    pub(crate) fn into_hand(self) -> Hand
+    /// The seat, handed back.
+    pub fn into_hand(self) -> Hand
         ensures hand { result ≡ self.hand }
         ensures part { (result.me.0.parts ≡ 1) × (result.me.1 ≡ []) }
         ensures refusals { result.me.0.refusals ≡ cond self.over 1 0 }
@@ -35,8 +37,8 @@ impl Ticket {
         hand
     }
 
-    // One addition, unless the ticket was refused before.
-    pub(crate) fn take(&mut self, word: &Word, bound: u64) -> Option<u64>
+    /// The next number below the bound, by one addition. None where there is no more, and always once it was refused.
+    pub fn take(&mut self, word: &Word, bound: u64) -> Option<u64>
         requires own { self.old.hand.table_id ≡ word.now.shared.table_id }
         requires word { word.now.shared.table_id.words ≡ 1 }
         requires bound { self.old.hand.me.0.bound ≡ bound }

@@ -1,11 +1,11 @@
 //! The end of a word.
 ghost use Rattle.std.specs.Prelude.{◌≡◌, ℕ, ◌≤◌, ◌-◌, min};
-ghost use Rattle.eco_workers.specs.Counting.{times, once};
+ghost use Rattle.eco_tickets.specs.Counting.{times, once};
 
 use crate::word::{Hand, Word};
 
-// Closes a word whose seats are all joined, and answers where it stood.
-pub(crate) fn settle(word: Word, hand: Hand) -> u64
+/// Closes a word whose seats are all joined, and answers where it stood.
+pub fn settle(word: Word, hand: Hand) -> u64
     requires own { hand.table_id ≡ word.shared.table_id }
     requires word { (word.shared.table_id.words ≡ 1) × (word.shared.table_id.slots ≡ 0) }
     requires all { hand.me.0.parts ≡ word.shared.key.parts }

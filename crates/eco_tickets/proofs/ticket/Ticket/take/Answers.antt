@@ -1,8 +1,8 @@
-use Rattle.eco_workers.proofs.Common.{◌<◌, cond, arith, ap, ◌∙◌, none, ascends, Share}
+use Rattle.eco_tickets.proofs.Common.{◌<◌, cond, arith, ap, ◌∙◌, none, ascends, Share}
 use Rattle.atomic_table.specs.Table.{step}
-use Rattle.eco_workers.proofs.Steps.{takes}
-use Rattle.eco_workers.proofs.Totals.{ascends_push}
-use Rattle.eco_workers.proofs.ticket.Ticket.take.Goals as goal
+use Rattle.eco_tickets.proofs.Steps.{takes}
+use Rattle.eco_tickets.proofs.Totals.{ascends_push}
+use Rattle.eco_tickets.proofs.ticket.Ticket.take.Goals as goal
 
 pub fetch_add-found-requires : goal.fetch_add-found-requires
 fetch_add-found-requires c =

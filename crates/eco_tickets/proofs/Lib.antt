@@ -1,0 +1,3 @@
+pub mod Common
+pub mod Steps
+pub mod Totals

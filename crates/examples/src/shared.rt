@@ -91,6 +91,15 @@ fn print_told<J: Naming, R: Wait + Print + Drop>(
     println!(rt; "told of it: {told}, and Heron is {east} miles to the east")
 }
 
+// A viewer looks on in a thread of its own, where one can be had.
+fn start_one<J: Naming + Send + 'static, R: Threads + Wait + Copy + Drop + Send + Sync + 'static>(
+    rt: R,
+    viewer: Viewer<J, R>,
+    ship: Ship,
+) -> Option<JoinHandle<(Viewer<J, R>, bool)>> {
+    thread::spawn(&rt, move || look_on(&rt, viewer, ship)).ok()
+}
+
 // Each viewer looks on in a thread of its own, where one can be had.
 fn start<J: Naming + Send + 'static, R: Threads + Wait + Copy + Drop + Send + Sync + 'static>(
     rt: R,
@@ -100,7 +109,7 @@ fn start<J: Naming + Send + 'static, R: Threads + Wait + Copy + Drop + Send + Sy
 ) -> Result<Vec<JoinHandle<(Viewer<J, R>, bool)>>, Refusal> {
     let mut threads = Vec::new(alloc);
     for viewer in viewers {
-        if let Ok(started) = thread::spawn(&rt, move || look_on(&rt, viewer, ship)) {
+        if let Some(started) = start_one(rt, viewer, ship) {
             threads.push(started)?;
         }
     }

@@ -143,7 +143,7 @@ fn show_unshared(text: &mut String, world: &World, other: &mut Scene) -> Result<
     other.show()
 }
 
-// What comes of an opening that was refused. The world that was handed back is shared after all.
+// The world that was handed back is shown, and shared after all.
 fn judge_refused<J: Naming, R: Threads + Wait + Copy + Sync + Drop>(
     rt: R,
     registry: &mut Registry<J>,
@@ -171,6 +171,21 @@ fn judge_opened<J: Naming, R: Threads + Wait + Sync + Drop>(
     Ok((NOTHING, 0))
 }
 
+// What comes of an opening that was refused: the refusal, and all that the world tells that was handed back.
+fn judge_unopened<J: Naming, R: Threads + Wait + Copy + Sync + Drop>(
+    rt: R,
+    registry: &mut Registry<J>,
+    text: &mut String,
+    world: World,
+    refusal: Refusal,
+    other: &mut Scene,
+) -> Result<(Lack, usize), Refusal> {
+    let lack = conclude(text, Err(refusal));
+    conclude(&mut other.text, Err(Refusal::OutOfMemory));
+    judge_refused(rt, registry, text, world, other)?;
+    Ok((lack, 0))
+}
+
 // What comes of an opening.
 fn judge_open<J: Naming, R: Eprint + Threads + Wait + Copy + Sync + Drop>(
     rt: R,
@@ -184,12 +199,7 @@ fn judge_open<J: Naming, R: Eprint + Threads + Wait + Copy + Sync + Drop>(
     end_call(&rt);
     match opened {
         Ok(mut shared) => judge_opened(&rt, text, &mut shared, other),
-        Err((world, refusal)) => {
-            let lack = conclude(text, Err(refusal));
-            conclude(&mut other.text, Err(Refusal::OutOfMemory));
-            judge_refused(rt, registry, text, world, other)?;
-            Ok((lack, 0))
-        }
+        Err((world, refusal)) => judge_unopened(rt, registry, text, world, refusal, other),
     }
 }
 

@@ -12,7 +12,7 @@ use Rattle.std.proofs.lemmas.List.Folds.{concat-append}
 use Rattle.std.proofs.lemmas.Option.{none-some, same_Some}
 use Rattle.eco_tickets.specs.Counting.{ascends, times}
 use Rattle.eco_frame.specs.Chunks.{chunk_commands, chunk_taken}
-use Rattle.eco_frame.proofs.Fresh.{parts_up, times_concat}
+use Rattle.eco_frame.proofs.Fresh.{parts_up}
 
 module _ {S : Type 0} (commands : S → List Entity → List Command) (taken : S → List Entity → ℕ) where
   -- how many a piece takes of fresh handles of these indices
@@ -186,7 +186,7 @@ module _ {S : Type 0} (commands : S → List Entity → List Command) (taken : S
             draws = h.0;
             recorded = subst (λ ps. Stages ps h.0 h.1) are h.2;
             ascend = h.5;
-            each = λ x. sym (times_concat x h.0) ∙ ap (times x) h.3 ∙ times_concat x b.draws ∙ b.each x;
+            each = λ x. ap (times x) h.3 ∙ b.each x;
             alone = λ one. ap ascends h.3 ∙ b.alone one;
           },
           sym h.4,
@@ -234,6 +234,6 @@ module _ {S : Type 0} (commands : S → List Entity → List Command) (taken : S
         record {
           draws = h.0;
           shares = subst (λ ps. Shares ps h.0) are h.1;
-          each = λ x. sym (times_concat x h.0) ∙ ap (times x) h.2 ∙ times_concat x b.draws ∙ b.each x;
+          each = λ x. ap (times x) h.2 ∙ b.each x;
           short = at_place pieces h.0 short;
         }

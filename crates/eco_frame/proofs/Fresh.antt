@@ -15,17 +15,6 @@ use Rattle.eco_tickets.specs.Counting.{total, times, once, all_above, ascends}
 
 -- numbers, each of which stands once
 
-total-append : {X : Type 0} (f : X → ℕ) (xs ys : List X) → total f (xs ++ ys) ≡ total f xs + total f ys
-total-append f [] ys = omega arith
-total-append f (x ∷ xs) ys = let h = total-append f xs ys in omega arith
-
-pub times_concat : (x : ℕ) (xss : List (List ℕ)) → times x (concat xss) ≡ total (times x) xss
-times_concat x [] = refl
-times_concat x (xs ∷ xss) =
-    let h = times_concat x xss in
-    let a = total-append (λ (y : ℕ). cond (eqb y x) 1 0) xs (concat xss) in
-    omega arith
-
 -- how many are below b
 abbrev below : ℕ → List ℕ → ℕ
 below b = total (λ (y : ℕ). cond (ltb y b) 1 0)
@@ -102,8 +91,8 @@ pub parts_up : (own : List (List ℕ)) → ascends (concat own) ≡ true → All
 parts_up [] h = All-nil (λ (d : List ℕ). ascends d ≡ true)
 parts_up (d ∷ own) h = All-cons (λ (d : List ℕ). ascends d ≡ true) d own (front_up d (concat own) h) (parts_up own (back_up d (concat own) h))
 
-each_once : (own : List (List ℕ)) (base n : ℕ) → concat own ≡ range_with_len base n → (x : ℕ) → total (times x) own ≡ once base (base + n) x
-each_once own base n is x = sym (times_concat x own) ∙ ap (times x) is ∙ times_range base n x
+each_once : (own : List (List ℕ)) (base n : ℕ) → concat own ≡ range_with_len base n → (x : ℕ) → times x (concat own) ≡ once base (base + n) x
+each_once own base n is x = ap (times x) is ∙ times_range base n x
 
 -- what one worker records in turn is recorded as by workers
 module _ {S : Type 0} (commands : S → List ℕ → List Command) (taken : S → List ℕ → ℕ) where
@@ -169,20 +158,19 @@ each_up (d ∷ own) up =
 -- each number from the base to below the limit was drawn once
 pub fresh_until : (base limit : ℕ) (own : List (List ℕ)) (draws : BatchDraws)
     → joined draws ≡ map (map fresh_entity) own → All (λ (d : List ℕ). ascends d ≡ true) own
-    → ((x : ℕ) → total (times x) own ≡ once base limit x) → AreFresh base draws × (length (all_drawn draws) ≡ limit - base)
+    → ((x : ℕ) → times x (concat own) ≡ once base limit x) → AreFresh base draws × (length (all_drawn draws) ≡ limit - base)
 fresh_until base limit own draws shape up each =
     let xs = concat own in
-    let all : (x : ℕ) → times x xs ≡ once base limit x = λ x. times_concat x own ∙ each x in
     let is : all_drawn draws ≡ map fresh_entity xs = ap joined shape ∙ joined_fresh own in
-    let count : length (all_drawn draws) ≡ limit - base = ap length is ∙ length-map xs fresh_entity ∙ length_is base limit xs all in
+    let count : length (all_drawn draws) ≡ limit - base = ap length is ∙ length-map xs fresh_entity ∙ length_is base limit xs each in
     let has : (e : Entity) → has_item entity_cmp (all_drawn draws) e ≡ (eqb 0 e.generation && ltb 0 (once base limit e.index)) =
-    λ e. ap (λ l. has_item entity_cmp l e) is ∙ has_fresh xs e ∙ ap (λ t. eqb 0 e.generation && ltb 0 t) (all e.index) in (
+    λ e. ap (λ l. has_item entity_cmp l e) is ∙ has_fresh xs e ∙ ap (λ t. eqb 0 e.generation && ltb 0 t) (each e.index) in (
       record {
         exact = λ e. (
           λ k. inside (length (all_drawn draws)) e.index e.generation count (sym (has e) ∙ k),
           λ k. has e ∙ listed (length (all_drawn draws)) e.index e.generation count k.0 k.1 k.2,
         );
-        once = subst (λ l. IsTrue (is_distinct l)) (sym is) (fresh_once xs (λ x. let h = all x in one x (times x xs) h));
+        once = subst (λ l. IsTrue (is_distinct l)) (sym is) (fresh_once xs (λ x. let h = each x in one x (times x xs) h));
         ascending = subst (AllByRecursion (λ d. IsTrue (is_ascending entity_cmp d))) (sym shape) (each_up own up);
       },
       count,
@@ -200,7 +188,7 @@ fresh_until base limit own draws shape up each =
 -- what is promised of each piece's draws makes them fresh
 pub fresh_batch : (base n : ℕ) (own : List (List ℕ)) (draws : BatchDraws)
     → joined draws ≡ map (map fresh_entity) own → All (λ (d : List ℕ). ascends d ≡ true) own
-    → ((x : ℕ) → total (times x) own ≡ once base (base + n) x) → AreFresh base draws × (length (all_drawn draws) ≡ n)
+    → ((x : ℕ) → times x (concat own) ≡ once base (base + n) x) → AreFresh base draws × (length (all_drawn draws) ≡ n)
 fresh_batch base n own draws shape up each =
     let h = fresh_until base (base + n) own draws shape up each in
     let count = h.1 in
@@ -208,16 +196,15 @@ fresh_batch base n own draws shape up each =
 
 -- and where they ascend over all pieces, they are the fresh handles in turn
 pub ascending_batch : (base n : ℕ) (own : List (List ℕ)) (draws : BatchDraws)
-    → joined draws ≡ map (map fresh_entity) own → ascends (concat own) ≡ true → ((x : ℕ) → total (times x) own ≡ once base (base + n) x)
+    → joined draws ≡ map (map fresh_entity) own → ascends (concat own) ≡ true → ((x : ℕ) → times x (concat own) ≡ once base (base + n) x)
     → AreAscending base draws
 ascending_batch base n own draws shape up each =
     let xs = concat own in
-    let all : (x : ℕ) → times x xs ≡ once base (base + n) x = λ x. times_concat x own ∙ each x in
     let is : all_drawn draws ≡ map fresh_entity xs = ap joined shape ∙ joined_fresh own in
     let size : (base + n) - base ≡ n = omega arith in
-    let count : length (all_drawn draws) ≡ n = ap length is ∙ length-map xs fresh_entity ∙ length_is base (base + n) xs all ∙ size in
+    let count : length (all_drawn draws) ≡ n = ap length is ∙ length-map xs fresh_entity ∙ length_is base (base + n) xs each ∙ size in
     let has : (e : Entity) → has_item entity_cmp (map fresh_entity xs) e ≡ has_item entity_cmp (fresh_from base n) e = λ e.
-    has_fresh xs e ∙ ap (λ t. eqb 0 e.generation && ltb 0 t) (all e.index ∙ sym (times_range base n e.index))
+    has_fresh xs e ∙ ap (λ t. eqb 0 e.generation && ltb 0 t) (each e.index ∙ sym (times_range base n e.index))
     ∙ sym (has_fresh (range_with_len base n) e) in
     is ∙ same_members entity_cmp_total same_entity (map fresh_entity xs) (fresh_from base n) (fresh_up xs ∙ up) (fresh_up (range_with_len base n)
     ∙ range_up base n)

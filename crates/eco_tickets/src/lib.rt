@@ -3,9 +3,11 @@
 #![tactic(auto)]
 
 mod closing;
+mod parts;
 mod ticket;
 mod word;
 
 pub use closing::settle;
+pub use parts::{join_hands, split_hand};
 pub use ticket::Ticket;
 pub use word::{Counted, Hand, OnePart, Share, Span, Taking, Word};

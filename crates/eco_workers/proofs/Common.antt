@@ -13,6 +13,7 @@ pub use Rattle.std.proofs.lemmas.List.FromFn.{get_or-range_with_len, length-rang
 pub use Rattle.std.proofs.lemmas.Option.{same_Some, slice_get_read, slice_get_within}
 pub use Rattle.std.proofs.lemmas.Result.{IfOk-weaker, err_from_is_err_and}
 pub use Rattle.std.specs.List.{All, AllZip, Contains, concat, flat_map, range_with_len, slice_get}
+pub use Rattle.std.specs.Prelude.{count_by}
 pub use Rattle.std.specs.Vec.Iter.{into_iter_items}
 pub use Rattle.eco_ids.specs.Run.{Command}
 pub use Rattle.eco_ids.specs.declared.refusal.Refusal.{Refusal}

@@ -1,17 +1,10 @@
 -- What all workers have collected, after one more worker.
-use Rattle.eco_workers.proofs.Common.{◌≡◌, ℕ, Bool, true, ◌<◌, eqb, cond, List, [], ◌∷◌, ◌++◌, length, length-append, map, refl, sym, ap}
-use Rattle.eco_workers.proofs.Common.{◌∙◌, arith, nat_tests, All, flat_map, map-append, All-append, All-nil, All-cons, All-head, All-tail, Seat, total}
+use Rattle.eco_workers.proofs.Common.{◌≡◌, ℕ, ◌+◌, Bool, true, ◌<◌, cond, List, [], ◌∷◌, ◌++◌, length, map, refl, sym, ap, ◌∙◌, subst, arith, nat_tests}
+use Rattle.eco_workers.proofs.Common.{All, append-nil, flat_map, flat_map-append, map-append, All-append, All-nil, All-cons, All-head, Seat, count_by}
 use Rattle.eco_workers.proofs.Common.{times, once, all_above, ascends, claimed, drawn, is_done, done_count, Command, Collected, Entry, piece_of_entry, IsLog}
 use Rattle.eco_workers.proofs.Common.{IsGood, IsGathered}
-use Rattle.eco_workers.proofs.Popped.{popped_total}
-use Rattle.eco_tickets.proofs.Totals.{total-append}
-
-pub times_flat : (x : ℕ) (log : List Entry) → times x (flat_map (λ (e : Entry). e.draws) log) ≡ total (λ (e : Entry). times x e.draws) log
-times_flat x [] = refl
-times_flat x (e ∷ log) =
-    let h = times_flat x log in
-    let a = total-append (λ (y : ℕ). cond (eqb y x) 1 0) e.draws (flat_map (λ (e : Entry). e.draws) log) in
-    omega arith
+use Rattle.std.proofs.lemmas.List.Sums.{sum_by-cons}
+use Rattle.eco_workers.proofs.Popped.{popped_list}
 
 above_front : (x : ℕ) (xs ys : List ℕ) → all_above x (xs ++ ys) ≡ true → all_above x xs ≡ true
 above_front x [] ys h = refl
@@ -32,26 +25,20 @@ all_ascend (e ∷ log) h =
     All-cons (λ (e : Entry). ascends e.draws ≡ true) e log (front_ascends e.draws rest h) (all_ascend log (back_ascends e.draws rest h))
 
 -- of one seat more, and of the entries of its worker
-module _ (x : ℕ) (log more : List Entry) (seats seats' : List Seat) (s : Seat) (ss : seats' ≡ seats ++ s ∷ []) where
-  pub claims_more : times x (map (λ (e : Entry). e.number) log) ≡ total (λ (s : Seat). times x (claimed s)) seats
-      → claimed s ≡ map (λ (e : Entry). e.number) more
-      → times x (map (λ (e : Entry). e.number) (log ++ more)) ≡ total (λ (s : Seat). times x (claimed s)) seats'
+module _ (log more : List Entry) (seats seats' : List Seat) (s : Seat) (ss : seats' ≡ seats ++ s ∷ []) where
+  pub claims_more : map (λ (e : Entry). e.number) log ≡ flat_map claimed seats → claimed s ≡ map (λ (e : Entry). e.number) more
+      → map (λ (e : Entry). e.number) (log ++ more) ≡ flat_map claimed seats'
   claims_more before mine =
       let number : Entry → ℕ = λ e. e.number in
-      let a = ap (times x) (map-append number log more) in
-      let b = total-append (λ (y : ℕ). cond (eqb y x) 1 0) (map number log) (map number more) in
-      let c = ap (times x) mine in
-      let d = popped_total (λ (s : Seat). times x (claimed s)) seats' seats s ss in
-      omega (arith, a, b, c, d)
+      map-append number log more ∙ ap (λ l. l ++ map number more) before ∙ ap (λ l. flat_map claimed seats ++ l) (sym mine)
+      ∙ sym (popped_list claimed seats' seats s ss)
 
-  pub draws_more : total (λ (e : Entry). times x e.draws) log ≡ total (λ (s : Seat). times x (drawn s)) seats
-      → drawn s ≡ flat_map (λ (e : Entry). e.draws) more → total (λ (e : Entry). times x e.draws) (log ++ more) ≡ total (λ (s : Seat). times x (drawn s)) seats'
+  pub draws_more : flat_map (λ (e : Entry). e.draws) log ≡ flat_map drawn seats → drawn s ≡ flat_map (λ (e : Entry). e.draws) more
+      → flat_map (λ (e : Entry). e.draws) (log ++ more) ≡ flat_map drawn seats'
   draws_more before mine =
-      let a = total-append (λ (e : Entry). times x e.draws) log more in
-      let b = times_flat x more in
-      let c = ap (times x) mine in
-      let d = popped_total (λ (s : Seat). times x (drawn s)) seats' seats s ss in
-      omega (arith, a, b, c, d)
+      let draws : Entry → List ℕ = λ e. e.draws in
+      flat_map-append draws log more ∙ ap (λ l. l ++ flat_map draws more) before ∙ ap (λ l. flat_map drawn seats ++ l) (sym mine)
+      ∙ sym (popped_list drawn seats' seats s ss)
 
 module _ {S : Type 0} (commands : S → List ℕ → List Command) (taken : S → List ℕ → ℕ) (pieces : List S) where
   pub gathered_none : (seats : List Seat) (pushed : List Collected) → seats ≡ [] → pushed ≡ [] → IsGathered commands taken pieces seats pushed []
@@ -59,10 +46,8 @@ module _ {S : Type 0} (commands : S → List ℕ → List Command) (taken : S �
       record {
         collected = p;
         good = All-nil (λ (e : Entry). IsGood commands taken pieces e);
-        claims = λ x. sym (ap (total (λ (s : Seat). times x (claimed s))) s);
-        draws = λ x. sym (ap (total (λ (s : Seat). times x (drawn s))) s);
-        none = λ len. refl;
-        alone = λ len. (refl, refl);
+        claims = sym (ap (flat_map claimed) s);
+        draws = sym (ap (flat_map drawn) s);
       }
 
   pub gathered_more : (seats seats' : List Seat) (pushed pushed' mine : List Collected) (log more : List Entry) (s : Seat)
@@ -71,37 +56,31 @@ module _ {S : Type 0} (commands : S → List ℕ → List Command) (taken : S �
       → seats' ≡ seats ++ s ∷ [] → pushed' ≡ pushed ++ mine
       → IsGathered commands taken pieces seats' pushed' (log ++ more)
   gathered_more seats seats' pushed pushed' mine log more s h l ss ps =
-      let number : Entry → ℕ = λ e. e.number in
       let up' : ascends (flat_map (λ (e : Entry). e.draws) more) ≡ true = ap ascends (sym l.draws) ∙ s.draw.ascending in
       let rising = all_ascend more up' in
       record {
         collected = ps ∙ ap (λ k. k ++ mine) h.collected ∙ ap (λ k. map piece_of_entry log ++ k) l.collected ∙ sym (map-append piece_of_entry log more);
         good = All-append (λ (e : Entry). IsGood commands taken pieces e) log more h.good (λ k d lt. (l.good k d lt, rising k d lt));
-        claims = λ x. claims_more x log more seats seats' s ss (h.claims x) l.claims;
-        draws = λ x. draws_more x log more seats seats' s ss (h.draws x) l.draws;
-        none = λ len. let n = ap length ss in let m = length-append seats (s ∷ []) in absurd (omega (arith, n, m));
-        alone = λ len.
-            let n = ap length ss in
-            let m = length-append seats (s ∷ []) in
-            let first : log ≡ [] = h.none (omega (arith, n, m)) in
-            let all : log ++ more ≡ more = ap (λ k. k ++ more) first in (
-              ap (λ k. ascends (map number k)) all ∙ ap ascends (sym l.claims) ∙ s.claim.ascending,
-              ap (λ k. ascends (flat_map (λ (e : Entry). e.draws) k)) all ∙ up',
-            );
+        claims = claims_more log more seats seats' s ss h.claims l.claims;
+        draws = draws_more log more seats seats' s ss h.draws l.draws;
       }
 
-done_all : (seats : List Seat) → All (λ s. is_done s ≡ true) seats → done_count seats ≡ length seats
-done_all [] h = refl
-done_all (s ∷ seats) h =
-    let P : Seat → Type 0 = λ s. is_done s ≡ true in
-    let f : Bool → ℕ = λ b. cond b 1 0 in
-    let a = ap f (All-head P s seats h) in
-    let b = done_all seats (All-tail P s seats h) in
-    omega (arith, a, b)
+-- some are done, where there is one and all are
+some_done : (seats : List Seat) → 0 < length seats → All (λ s. is_done s ≡ true) seats → 0 < done_count seats
+some_done [] some h = absurd (omega (arith, some))
+some_done (s ∷ seats) some h =
+    let weight : Bool → ℕ = λ b. cond b 1 0 in
+    let one : cond (is_done s) 1 0 ≡ 1 = ap weight (All-head (λ (s : Seat). is_done s ≡ true) s seats h) in
+    let more : 0 < cond (is_done s) 1 0 + count_by is_done seats = omega (arith, one) in
+    subst (λ n. 0 < n) (sym (sum_by-cons (λ (s : Seat). cond (is_done s) 1 0) s seats)) more
 
 -- all seats were refused a piece, so all pieces were claimed
 pub all_claimed : (x pieces claims : ℕ) (seats : List Seat) → 0 < length seats → All (λ s. is_done s ≡ true) seats → (0 < done_count seats → claims ≡ pieces)
-    → total (λ s. times x (claimed s)) seats ≡ once 0 claims x → total (λ s. times x (claimed s)) seats ≡ once 0 pieces x
-all_claimed x pieces claims seats some done ended each =
-    let n = done_all seats done in
-    each ∙ ap (λ b. once 0 b x) (ended (omega (arith, n)))
+    → times x (flat_map claimed seats) ≡ once 0 claims x → times x (flat_map claimed seats) ≡ once 0 pieces x
+all_claimed x pieces claims seats some done ended each = each ∙ ap (λ b. once 0 b x) (ended (some_done seats some done))
+
+-- a seat alone has all in turn
+pub alone_ascends : (seats : List Seat) → length seats ≡ 1 → (ascends (flat_map claimed seats) ≡ true) × (ascends (flat_map drawn seats) ≡ true)
+alone_ascends [] one = absurd (omega (arith, one))
+alone_ascends (s ∷ []) one = (ap ascends (append-nil (claimed s)) ∙ s.claim.ascending, ap ascends (append-nil (drawn s)) ∙ s.draw.ascending)
+alone_ascends (s ∷ t ∷ seats) one = absurd (omega (arith, one))

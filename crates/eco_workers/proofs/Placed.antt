@@ -115,9 +115,17 @@ module _ {X : Type 0} (f : X → ℕ) where
   total_replicate zero x none = refl
   total_replicate (suc n) x none = let h = total_replicate n x none in omega arith
 
-total_map : {X Y : Type 0} (f : Y → ℕ) (g : X → Y) (xs : List X) → total f (map g xs) ≡ total (λ x. f (g x)) xs
-total_map f g [] = refl
-total_map f g (x ∷ xs) = let h = total_map f g xs in omega arith
+times-append : (x : ℕ) (xs ys : List ℕ) → times x (xs ++ ys) ≡ times x xs + times x ys
+times-append x [] ys = omega arith
+times-append x (y ∷ xs) ys = let h = times-append x xs ys in omega arith
+
+-- what all entries drew
+abbrev all_draws : List Entry → List ℕ
+all_draws log = flat_map (λ (e : Entry). e.draws) log
+
+times_each : (x : ℕ) (log : List Entry) → times x (all_draws log) ≡ total (λ (e : Entry). times x e.draws) log
+times_each x [] = refl
+times_each x (e ∷ log) = let h = times_each x log in let a = times-append x e.draws (all_draws log) in omega arith
 
 map_replicate : {X Y : Type 0} (g : X → Y) (n : ℕ) (x : X) → map g (replicate n x) ≡ replicate n (g x)
 map_replicate g zero x = refl
@@ -156,7 +164,7 @@ once_most a b x = grind (arith, nat_tests)
 abbrev blank : Entry
 blank = record { number = 0; stage = []; draws = [] }
 
-concat_map : (log : List Entry) → concat (map (λ (e : Entry). e.draws) log) ≡ flat_map (λ (e : Entry). e.draws) log
+concat_map : (log : List Entry) → concat (map (λ (e : Entry). e.draws) log) ≡ all_draws log
 concat_map [] = refl
 concat_map (e ∷ log) = ap (λ l. e.draws ++ l) (concat_map log)
 
@@ -214,8 +222,8 @@ module _ {S : Type 0} (commands : S → List ℕ → List Command) (taken : S �
   pub batch_made : (workers : ℕ) (pieces : List S) (log : List Entry) (base n count : ℕ) → length pieces ≡ count
       → All (λ (e : Entry). IsGood commands taken pieces e) log
       → ((x : ℕ) → times x (numbers log) ≡ once 0 count x)
-      → ((x : ℕ) → total (λ (e : Entry). times x e.draws) log ≡ once base (base + n) x)
-      → (workers ≡ 1 → (ascends (numbers log) ≡ true) × (ascends (flat_map (λ (e : Entry). e.draws) log) ≡ true))
+      → ((x : ℕ) → times x (all_draws log) ≡ once base (base + n) x)
+      → (workers ≡ 1 → (ascends (numbers log) ≡ true) × (ascends (all_draws log) ≡ true))
       → IsBatch commands taken workers pieces base n (placed_stages (map piece_of_entry log) (replicate count []))
   batch_made workers pieces log base n count len good claims drawn alone =
       let places = replicate count blank in
@@ -241,13 +249,15 @@ module _ {S : Type 0} (commands : S → List ℕ → List Command) (taken : S �
             (All-from_get_or (λ (e : Entry). ascends e.draws ≡ true) es blank (λ k lt. (own k (omega arith)).1.1));
         each = λ x.
             let f : Entry → ℕ = λ e. times x e.draws in
-            let m = total_map (times x) draws es in
             let light : (k : ℕ) → 0 < times k (numbers log) → f (get_or places k blank) ≡ 0 = λ k some.
             (let c = claims k in ap f (get_or-replicate count k blank blank (within_once count k (omega arith)))) in
             let t = sorted_total f log places blank apart within light in
             let z = total_replicate f count blank refl in
+            let e = times_each x es in
+            let l = times_each x log in
             let d = drawn x in
-            omega arith;
+            let is : times x (all_draws es) ≡ once base (base + n) x = omega arith in
+            ap (times x) (concat_map es) ∙ is;
         alone = λ one.
             (let up = alone one in
             let same : es ≡ log = sorted_same log places count (omega arith) up.0 claims in
@@ -282,8 +292,8 @@ module _ {S : Type 0} (commands : S → List ℕ → List Command) (taken : S �
 
   pub out_made : (pieces : List S) (seats : List Seat) (shares : List Entry) (base limit claims : ℕ)
       → IsShared commands taken pieces seats shares
-      → ((x : ℕ) → total (λ (s : Seat). times x (claimed s)) seats ≡ once 0 claims x)
-      → ((x : ℕ) → total (λ (s : Seat). times x (drawn s)) seats ≡ once base limit x)
+      → ((x : ℕ) → times x (flat_map claimed seats) ≡ once 0 claims x)
+      → ((x : ℕ) → times x (flat_map drawn seats) ≡ once base limit x)
       → (e : Entry) → Contains shares e → IsShort commands taken pieces e
       → IsOut commands taken pieces base limit
   out_made pieces seats shares base limit claims shared each drawn e at short =
@@ -294,7 +304,7 @@ module _ {S : Type 0} (commands : S → List ℕ → List Command) (taken : S �
       let H : Entry → Type 0 = λ (e : Entry). IsShare commands taken pieces e in
       let room : length places ≡ count = length-replicate count blank in
       let size = length-sorted shares places in
-      let apart : AreApart shares = λ x. let c = shared.claims x in let m = once_most 0 claims x in let t = each x in omega arith in
+      let apart : AreApart shares = λ x. let c = ap (times x) shared.claims in let m = once_most 0 claims x in let t = each x in omega arith in
       let within : All (λ (e : Entry). e.number < length places) shares = λ k d lt.
       (let e = shared.fair k d lt in let i = slice_get_within pieces _ _ e.at in omega arith) in
       let fair : (k : ℕ) (piece : S) → slice_get pieces k ≡ Some piece → Takes piece (get_or es k blank).draws = λ k piece is.
@@ -320,7 +330,6 @@ module _ {S : Type 0} (commands : S → List ℕ → List Command) (taken : S �
         shares = all_shares pieces es blank (omega arith) fair;
         each = λ x.
             let f : Entry → ℕ = λ e. times x e.draws in
-            let m = total_map (times x) draws es in
             let light : (k : ℕ) → 0 < times k (numbers shares) → f (get_or places k blank) ≡ 0 = λ k some.
             (elim (cases_lt k count) [
               | inl lt ↦ ap f (get_or-replicate count k blank blank lt)
@@ -329,8 +338,11 @@ module _ {S : Type 0} (commands : S → List ℕ → List Command) (taken : S �
             ]) in
             let t = sorted_total f shares places blank apart within light in
             let z = total_replicate f count blank refl in
+            let e = times_each x es in
+            let l = times_each x shares in
             let d = drawn x in
-            let s = shared.draws x in
-            omega arith;
+            let s = ap (times x) shared.draws in
+            let is : times x (all_draws es) ≡ once base limit x = omega arith in
+            ap (times x) (concat_map es) ∙ is;
         short = (e.number, short.piece, short.at, subst (λ (d : List ℕ). length d < taken short.piece d) (sym listed) short.more);
       }

@@ -1,11 +1,11 @@
 -- What the seats of all workers have claimed and drawn, shared out among pieces, after one more worker.
 use Rattle.eco_workers.proofs.Common.{◌≡◌, ◌⊎◌, inl, inr, ℕ, zero, suc, Bool, true, cond, List, [], ◌∷◌, ◌++◌, map, sym, ap, ◌∙◌}
 use Rattle.eco_workers.proofs.Common.{subst, arith, All, Contains, flat_map, map_push, All-head, All-tail, All-append, All-nil, Contains-append_left}
-use Rattle.eco_workers.proofs.Common.{Contains-append_right, Seat, total, times, claimed, drawn, is_dry, Command, Refusal, NoMoreIds, Collected, Worked, End}
+use Rattle.eco_workers.proofs.Common.{Contains-append_right, Seat, claimed, drawn, is_dry, Command, Refusal, NoMoreIds, Collected, Worked, End}
 use Rattle.eco_workers.proofs.Common.{Done, NoMemory, Refused, IsStopped, Entry, IsShare, IsShort, IsShared, IsFoundShort, HasEnded, IsStop, IsWorked, ends_of}
 use Rattle.eco_workers.specs.declared.round.Round.{Round}
 use Rattle.eco_workers.proofs.Gathered.{claims_more, draws_more}
-use Rattle.eco_workers.proofs.Popped.{popped_total}
+use Rattle.eco_workers.proofs.Popped.{popped_count}
 use Rattle.eco_workers.proofs.Logs.{fair_log}
 
 -- a member of a list and one more is in the list, or is that one
@@ -40,8 +40,8 @@ module _ {S : Type 0} (commands : S → List ℕ → List Command) (taken : S �
   shared_none seats s =
       record {
         fair = All-nil (λ (e : Entry). IsShare commands taken pieces e);
-        claims = λ x. sym (ap (total (λ (s : Seat). times x (claimed s))) s);
-        draws = λ x. sym (ap (total (λ (s : Seat). times x (drawn s))) s);
+        claims = sym (ap (flat_map claimed) s);
+        draws = sym (ap (flat_map drawn) s);
       }
 
   -- of the workers that are left, and of what was found of the others
@@ -63,13 +63,13 @@ module _ {S : Type 0} (commands : S → List ℕ → List Command) (taken : S �
       let mine = shares_of w.end w.seat w.pieces.items ended in
       let log = h.shares in
       let more = mine.shares in
-      let dries = popped_total (λ (s : Seat). cond (is_dry s) 1 0) seats' seats w.seat ss in
+      let dries = popped_count is_dry seats' seats w.seat ss in
       record {
         shares = log ++ more;
         shared = record {
           fair = All-append (λ (e : Entry). IsShare commands taken pieces e) log more h.shared.fair mine.fair;
-          claims = λ x. claims_more x log more seats seats' w.seat ss (h.shared.claims x) mine.claims;
-          draws = λ x. draws_more x log more seats seats' w.seat ss (h.shared.draws x) mine.draws;
+          claims = claims_more log more seats seats' w.seat ss h.shared.claims mine.claims;
+          draws = draws_more log more seats seats' w.seat ss h.shared.draws mine.draws;
         };
         found = λ n is.
             elim (h.found n is) [

@@ -1,7 +1,7 @@
 -- What a batch gives: a stage for each piece, in the order of the pieces.
 use Rattle.std.specs.Prelude.{◌≡◌, ℕ, ◌+◌, ◌<◌, ◌≤◌, true, List, [], ◌∷◌, set, length, get_or, Some}
 use Rattle.std.specs.List.{All, AllZip, concat, slice_get}
-use Rattle.eco_tickets.specs.Counting.{total, times, once, ascends}
+use Rattle.eco_tickets.specs.Counting.{times, once, ascends}
 use Rattle.eco_ids.specs.Run.{Command}
 use Rattle.eco_workers.specs.declared.collected.Collected.{Collected}
 use Rattle.eco_workers.specs.Entries.{IsStage}
@@ -24,7 +24,7 @@ module _ {S : Type 0} (commands : S → List ℕ → List Command) (taken : S �
     pub draws : List (List ℕ)
     pub recorded : AreStages pieces draws stages
     pub ascend : All (λ (d : List ℕ). ascends d ≡ true) draws
-    pub each : (x : ℕ) → total (times x) draws ≡ once base (base + n) x
+    pub each : (x : ℕ) → times x (concat draws) ≡ once base (base + n) x
     pub alone : workers ≡ 1 → ascends (concat draws) ≡ true
 
   -- There are draws for each piece, that together are all numbers from base to below the limit, each once. Each piece takes at least its draws, and one
@@ -32,5 +32,5 @@ module _ {S : Type 0} (commands : S → List ℕ → List Command) (taken : S �
   pub record IsOut (pieces : List S) (base limit : ℕ) : Type 0 where
     pub draws : List (List ℕ)
     pub shares : AllZip (λ (piece : S) (d : List ℕ). length d ≤ taken piece d) pieces draws
-    pub each : (x : ℕ) → total (times x) draws ≡ once base limit x
+    pub each : (x : ℕ) → times x (concat draws) ≡ once base limit x
     pub short : (k : ℕ) × (piece : S) × (slice_get pieces k ≡ Some piece) × (length (get_or draws k []) < taken piece (get_or draws k []))

@@ -1,7 +1,7 @@
 -- What was recorded of pieces: the stage of each, and the indices that it drew.
 use Rattle.std.specs.Prelude.{◌≡◌, ℕ, ◌<◌, ◌≤◌, true, List, [], map, length, Some}
 use Rattle.eco_workers.specs.declared.seat.Seat.{Seat}
-use Rattle.eco_tickets.specs.Counting.{total, times, ascends}
+use Rattle.eco_tickets.specs.Counting.{ascends}
 use Rattle.eco_workers.specs.Rounds.{claimed, drawn, dry_count}
 use Rattle.std.specs.List.{All, Contains, slice_get, flat_map}
 use Rattle.eco_ids.specs.Run.{Command}
@@ -45,14 +45,13 @@ module _ {S : Type 0} (commands : S → List ℕ → List Command) (taken : S �
     abbrev pub IsGood : Entry → Type 0
     IsGood e = IsEntry e × (ascends e.draws ≡ true)
 
-    -- what all workers have collected: their seats have claimed these pieces and drawn these indices, as often as they stand here
+    -- what all workers have collected: the pieces that their seats have claimed, seat by seat, of which the draws are one after the other what the seats have
+    -- drawn
     pub record IsGathered (seats : List Seat) (pushed : List Collected) (log : List Entry) : Type 0 where
       pub collected : pushed ≡ map piece_of_entry log
       pub good : All (λ (e : Entry). IsGood e) log
-      pub claims : (x : ℕ) → times x (map (λ (e : Entry). e.number) log) ≡ total (λ (s : Seat). times x (claimed s)) seats
-      pub draws : (x : ℕ) → total (λ (e : Entry). times x e.draws) log ≡ total (λ (s : Seat). times x (drawn s)) seats
-      pub none : length seats ≡ 0 → log ≡ []
-      pub alone : length seats ≡ 1 → (ascends (map (λ (e : Entry). e.number) log) ≡ true) × (ascends (flat_map (λ (e : Entry). e.draws) log) ≡ true)
+      pub claims : map (λ (e : Entry). e.number) log ≡ flat_map claimed seats
+      pub draws : flat_map (λ (e : Entry). e.draws) log ≡ flat_map drawn seats
 
     -- the piece takes at least these indices
     pub record IsShare (e : Entry) : Type 0 where
@@ -69,8 +68,8 @@ module _ {S : Type 0} (commands : S → List ℕ → List Command) (taken : S �
     -- what the seats have claimed and drawn, shared out among pieces
     pub record IsShared (seats : List Seat) (shares : List Entry) : Type 0 where
       pub fair : All (λ (e : Entry). IsShare e) shares
-      pub claims : (x : ℕ) → times x (map (λ (e : Entry). e.number) shares) ≡ total (λ (s : Seat). times x (claimed s)) seats
-      pub draws : (x : ℕ) → total (λ (e : Entry). times x e.draws) shares ≡ total (λ (s : Seat). times x (drawn s)) seats
+      pub claims : map (λ (e : Entry). e.number) shares ≡ flat_map claimed seats
+      pub draws : flat_map (λ (e : Entry). e.draws) shares ≡ flat_map drawn seats
 
     -- some seat was refused an index, for a piece that takes more than it drew
     abbrev pub IsFoundShort : List Seat → List Entry → Type 0

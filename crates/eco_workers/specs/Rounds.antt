@@ -1,10 +1,9 @@
 -- What a clause says of a round and of its seats.
-use Rattle.std.specs.Prelude.{◌≡◌, ℕ, ◌<◌, Bool, true, false, List, [], ◌∷◌, ◌++◌, cond, Option, None, Result, Err, MatchOption, MatchResult}
+use Rattle.std.specs.Prelude.{◌≡◌, ℕ, ◌<◌, Bool, true, false, List, [], ◌∷◌, ◌++◌, count_by, Option, None, Result, Err, MatchOption, MatchResult}
 use Rattle.std.specs.List.{range_with_len}
 use Rattle.eco_ids.specs.declared.entity.Entity.{Entity}
 use Rattle.eco_ids.specs.declared.refusal.Refusal.{Refusal}
 use Rattle.eco_ids.specs.declared.refusal.Refusal.TheVariants.{NoMoreIds}
-use Rattle.eco_tickets.specs.Counting.{total}
 use Rattle.eco_workers.specs.declared.round.Round.{Round}
 use Rattle.eco_workers.specs.declared.seat.Seat.{Seat}
 
@@ -70,11 +69,11 @@ Draws r old answer new =
 
 -- how many of the seats were refused a piece
 abbrev pub done_count : List Seat → ℕ
-done_count seats = total (λ s. cond (is_done s) 1 0) seats
+done_count seats = count_by is_done seats
 
 -- and how many an index
 abbrev pub dry_count : List Seat → ℕ
-dry_count seats = total (λ s. cond (is_dry s) 1 0) seats
+dry_count seats = count_by is_dry seats
 
 -- a seat alone has claimed the first pieces and drawn the first indices, in order, without a gap
 abbrev pub Alone : ℕ → List Seat → ℕ → ℕ → Type 0

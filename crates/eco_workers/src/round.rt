@@ -1,14 +1,13 @@
 //! A round: pieces to claim and fresh indices to draw.
 ghost use Rattle.std.specs.Prelude.{◌≡◌, ◌≢◌, ℕ, ◌≤◌, ◌<◌, ◌^◌, ◌+◌, ◌-◌, [], ◌∷◌, ◌++◌, true, false, length, vec_len};
-ghost use Rattle.std.specs.Prelude.{cond};
 ghost use Rattle.std.specs.Prelude.{min, IfOk, IfErr};
-ghost use Rattle.std.specs.List.{All};
+ghost use Rattle.std.specs.List.{All, flat_map};
 ghost use Rattle.eco_ids.specs.declared.refusal.Refusal.TheVariants.{OutOfMemory};
-ghost use Rattle.eco_tickets.specs.Counting.{total, times, once, ascends};
+ghost use Rattle.eco_tickets.specs.Counting.{times, once, ascends};
 
 use crate::seat::Seat;
 use eco_ids::{Entity, Refusal};
-use eco_tickets::{Hand, OnePart, Span, Word, settle};
+use eco_tickets::{Hand, Span, Word, join_hands, settle, split_hand};
 use std::alloc::{AllocError, Global};
 
 /// Pieces to claim, from 0, and fresh indices to draw, from a base to below a limit. Threads share it, and each has a seat of
@@ -143,8 +142,8 @@ impl Round {
     /// and where one was refused an index all are drawn. The lists of a seat alone ascend without a gap.
     pub fn close(self, seats: Vec<Seat>) -> (u32, u32)
         requires all { (vec_len seats ≡ seats_of self) × All (IsSeatOf self) seats.items }
-        ensures claimed { (x : ℕ) → total (λ s. times x (claimed s)) seats.items ≡ once 0 result.0 x }
-        ensures drawn { (x : ℕ) → total (λ s. times x (drawn s)) seats.items
+        ensures claimed { (x : ℕ) → times x (flat_map claimed seats.items) ≡ once 0 result.0 x }
+        ensures drawn { (x : ℕ) → times x (flat_map drawn seats.items)
             ≡ once (base_of self) (base_of self + result.1) x }
         ensures most { (result.0 ≤ piece_count self) × (base_of self + result.1 ≤ limit_of self) }
         ensures done { 0 < done_count seats.items → result.0 ≡ piece_count self }
@@ -198,22 +197,20 @@ impl Round {
         ensures draw { (draw.new.table_id ≡ draw.old.table_id)
             × (draw.new.me ≡ (less_one draw.old.me.0, draw.old.me.1)) }
     {
-        let one = self.claims.shared.split_seat::<OnePart>(claim);
-        let other = self.draws.shared.split_seat::<OnePart>(draw);
+        let one = split_hand(&self.claims, claim);
+        let other = split_hand(&self.draws, draw);
         Seat::new(one, other)
     }
 
-    // Joins all seats.
+    // Joins all seats: what they were given stands in their order.
     fn gather(&self, mut seats: Vec<Seat>) -> (Hand, Hand)
         requires all { (vec_len seats ≡ seats_of self.now) × All (IsSeatOf self.now) seats.items }
         ensures claim { (result.0.table_id ≡ self.now.claims.shared.table_id)
             × (result.0.me.0.parts ≡ self.now.seats) }
         ensures draw { (result.1.table_id ≡ self.now.draws.shared.table_id)
             × (result.1.me.0.parts ≡ self.now.seats) }
-        ensures claimed { (x : ℕ) → times x result.0.me.0.numbers
-            ≡ total (λ s. times x (claimed s)) seats.items }
-        ensures drawn { (x : ℕ) → times x result.1.me.0.numbers
-            ≡ total (λ s. times x (drawn s)) seats.items }
+        ensures claimed { result.0.me.0.numbers ≡ flat_map claimed seats.items }
+        ensures drawn { result.1.me.0.numbers ≡ flat_map drawn seats.items }
         ensures refusals { (result.0.me.0.refusals ≡ done_count seats.items)
             × (result.1.me.0.refusals ≡ dry_count seats.items) }
     {
@@ -223,8 +220,8 @@ impl Round {
         let (mut claim, mut draw) = seat.into_hands();
         while let Some(seat) = seats.pop() {
             let (one, other) = seat.into_hands();
-            self.claims.shared.join_seat::<OnePart>(&mut claim, one);
-            self.draws.shared.join_seat::<OnePart>(&mut draw, other);
+            claim = join_hands(&self.claims, one, claim);
+            draw = join_hands(&self.draws, other, draw);
         }
         (claim, draw)
     }

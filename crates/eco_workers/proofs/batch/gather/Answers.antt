@@ -1,4 +1,4 @@
-use Rattle.eco_workers.proofs.Common.{◌≡◌, true, length, length-append, [], ◌∷◌, ◌++◌, ap, ◌∙◌, sym, subst, arith, rules, All, All-push}
+use Rattle.eco_workers.proofs.Common.{◌≡◌, true, List, length, length-append, [], ◌∷◌, ◌++◌, ap, ◌∙◌, sym, subst, arith, rules, All, All-push}
 use Rattle.eco_workers.proofs.Common.{All-nil, Seat, is_done, IsSeatOf, Worked, End, Done, by_index, IsWorked, HasEnded}
 use Rattle.eco_workers.proofs.Popped.{popped_all}
 use Rattle.eco_workers.proofs.Gathered.{gathered_none, gathered_more}
@@ -14,8 +14,8 @@ loop-one-init g c =
       room = search rules;
       left = c.requires.worked;
       ended = c.requires.done;
-      own = subst (All (IsSeatOf c.args.round.now)) (sym seats) (All-nil (IsSeatOf c.args.round.now));
-      done = let P : Seat → Type 0 = λ s. is_done s ≡ true in subst (All P) (sym seats) (All-nil P);
+      own = subst (All (IsSeatOf c.args.round.now)) (sym {A = List Seat} seats) (All-nil (IsSeatOf c.args.round.now));
+      done = let P : Seat → Type 0 = λ s. is_done s ≡ true in subst (All P) (sym {A = List Seat} seats) (All-nil P);
       log = ([], gathered_none f t c.args.pieces.now c.in_ok-seats.seats.items c.new-all.result.items seats c.new-all.ensures.items);
     }
 
@@ -41,8 +41,10 @@ loop-one-preserved g c =
       room = search rules;
       left = p.0;
       ended = q.0;
-      own = subst (All (IsSeatOf c.args.round.now)) (sym pushed) (All-push (IsSeatOf c.args.round.now) c.loop-one.seats.items one.seat i.own p.1.0);
-      done = let P : Seat → Type 0 = λ s. is_done s ≡ true in subst (All P) (sym pushed) (All-push P c.loop-one.seats.items one.seat i.done good.done);
+      own = subst (All (IsSeatOf c.args.round.now)) (sym {A = List Seat} pushed)
+          (All-push (IsSeatOf c.args.round.now) c.loop-one.seats.items one.seat i.own p.1.0);
+      done = let P : Seat → Type 0 = λ s. is_done s ≡ true in subst (All P) (sym {A = List Seat} pushed)
+          (All-push P c.loop-one.seats.items one.seat i.done good.done);
       log = (
         i.log.0 ++ good.log,
         gathered_more f t ps c.loop-one.seats.items c.push_reserved.new.self.items

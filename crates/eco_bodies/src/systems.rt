@@ -1,5 +1,6 @@
 //! The systems of a frame.
-ghost use Rattle.std.specs.Prelude.{◌≡◌, ◌||◌, [], ℕ, List, IfErr, MatchOption, MatchResult, OnErr, OnOk};
+ghost use Rattle.std.specs.Prelude.{◌≡◌, ◌<◌, ◌||◌, [], ℕ, List, IfErr, IfOk, MatchOption, MatchResult, OnErr, OnOk};
+ghost use Rattle.std.specs.Prelude.{string_bytes, vec_capacity, vec_len};
 ghost use Rattle.std.specs.BTreeSet.{contains_text};
 ghost use Rattle.eco_ids.specs.declared.refusal.Refusal.TheVariants.{OutOfMemory};
 ghost use Rattle.eco_ids.specs.Names.{is_text};
@@ -111,6 +112,30 @@ fn add_name(alloc: Global, names: &mut BTreeSet<String>, name: &str) -> Result<(
     Ok(())
 }
 
+// Room for one more system, its name among the names, and what it is to own: its name, and the patterns of its query. An `Err`
+// comes where memory is refused, and leaves the systems and the names.
+fn prepare<B: Drop>(
+    alloc: Global,
+    list: &mut Vec<System<B>>,
+    names: &mut BTreeSet<String>,
+    name: &str,
+    query: &Query,
+) -> Result<(String, Vec<Pattern>), AllocError>
+    ensures items { list.new.items ≡ list.old.items }
+    ensures room { OnOk result (vec_len list.new < vec_capacity list.new) }
+    ensures own { IfOk result (λ r. (string_bytes r.0 ≡ name.now) × (r.1.items ≡ reads query.now)) }
+    ensures ok { OnOk result ((other : List ℕ)
+        → contains_text names.new other ≡ (contains_text names.old other || is_text name.now other)) }
+    ensures err { OnErr result ((other : List ℕ)
+        → contains_text names.new other ≡ contains_text names.old other) }
+{
+    list.reserve(1)?;
+    let own = String::from_str(alloc, name)?;
+    let patterns = query.reads(alloc)?;
+    add_name(alloc, names, name)?;
+    Ok((own, patterns))
+}
+
 impl<B> Model for Systems<B> {
     ghost use Rattle.std.specs.Prelude.{◌≡◌, ℕ, List};
     ghost use Rattle.std.specs.BTreeSet.{contains_text};
@@ -190,14 +215,13 @@ impl<B: Drop> Systems<B> {
                 body,
             });
         }
-        let (Ok(()), Ok(own), Ok(query_reads)) = (
-            self.list.reserve(1),
-            String::from_str(self.alloc, name),
-            query.reads(self.alloc),
+        let Ok((own, query_reads)) = prepare(
+            self.alloc,
+            &mut self.list,
+            &mut self.names,
+            name,
+            &query,
         ) else {
-            return Err(NotAdded::for_memory(query, body));
-        };
-        let Ok(()) = add_name(self.alloc, &mut self.names, name) else {
             return Err(NotAdded::for_memory(query, body));
         };
         query.is_positive();

@@ -1,6 +1,6 @@
 //! What the steps of a script answer.
 
-ghost use Rattle.std.specs.Prelude.{◌≡◌, ◌+◌, ◌≤◌, ◌++◌, length, IfOk, OnOk, string_bytes, flat_map};
+ghost use Rattle.std.specs.Prelude.{◌≡◌, ◌+◌, ◌≤◌, ◌++◌, codes, decimal, length, IfOk, OnOk, string_bytes, flat_map};
 ghost use Rattle.eco_systems.specs.Batches.{joined};
 ghost use Rattle.eco_script.specs.Answers.{answer_view, reply_view};
 ghost use Rattle.eco_script.specs.Lines.{line_of, row_line};
@@ -38,6 +38,14 @@ pub enum Reply {
     Framed(FrameReport),
     /// Where a frame stopped.
     Stopped(FrameStop),
+}
+
+// Adds the line of how many lines come.
+fn push_count(text: &mut String, count: usize) -> Result<(), AllocError>
+    ensures { OnOk result (string_bytes text.new
+        ≡ string_bytes text.old ++ (codes "ok " ++ decimal count ++ codes "\n")) }
+{
+    write!(text, "ok {count}\n")
 }
 
 // Adds the line of a refusal.
@@ -185,19 +193,16 @@ impl Reply {
                 write!(text, "ok {line}")
             }
             Reply::Listed(entities) => {
-                let count = entities.len();
-                write!(text, "ok {count}\n")?;
+                push_count(text, entities.len())?;
                 push_entity_lines(text, world, entities.as_slice())
             }
             Reply::Found(results) => {
-                let count = results.len();
-                write!(text, "ok {count}\n")?;
+                push_count(text, results.len())?;
                 push_row_lines(text, results)
             }
             Reply::Kept(QueryId(number)) => write!(text, "ok {number}\n"),
             Reply::Merged(report) => {
-                let count = report.len();
-                write!(text, "ok {count}\n")?;
+                push_count(text, report.len())?;
                 push_outcome_lines(text, report)
             }
             Reply::Framed(report) => push_framed(text, report),

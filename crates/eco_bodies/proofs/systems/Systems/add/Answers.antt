@@ -9,5 +9,5 @@ placed A B C D new mid old x e f a b c d = (x, e ∙ ap (λ xs. xs ++ x ∷ []) 
 pub returns-clause-added : goal.returns-clause-added
 returns-clause-added g c =
     placed (λ (s : System g.row.B.Denot). string_bytes s.name ≡ c.args.name.now) (λ s. s.phase ≡ c.args.phase) (λ s. s.query ≡ c.args.query)
-    (λ s. s.body ≡ c.args.body) _ _ _ _ c.push_reserved.ensures.items (c.in-Ok-Ok-Ok.ensures.items
-    ∙ c.self.view_is) c.in-Ok-Ok-Ok.ensures'.ok refl refl refl
+    (λ s. s.body ≡ c.args.body) _ _ _ _ c.push_reserved.ensures.items (c.prepare.ensures.items ∙ c.self.view_is) c.in-Ok.ensures.own.0
+    refl refl refl
